@@ -1,0 +1,7 @@
+pub mod Text
+pub mod Offsets
+pub mod Boundaries
+pub mod Packed
+pub mod Views
+pub mod Rounding
+pub mod Crumbs
