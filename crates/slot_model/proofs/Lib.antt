@@ -1,0 +1,7 @@
+pub mod Runs
+pub mod Sides
+mod Kept
+mod Counts
+mod Changes
+mod References
+pub mod Firsts
