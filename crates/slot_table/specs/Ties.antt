@@ -1,0 +1,101 @@
+-- How an owner's value goes with its seat: the invariants of heaps, passes, drafts and references.
+use Rattle.std.specs.Prelude.{◌≡◌, ℕ, ◌+◌, ◌<◌, ◌≤◌, ◌⊎◌, Bool, List, [], length, Some, None}
+use Rattle.atomic_table.specs.Seated.{TableId}
+use Rattle.atomic_table.specs.declared.shared.Seat.{Seat}
+use Rattle.slot_model.specs.declared.layout.Layout.{Layout}
+use Rattle.slot_table.specs.declared.view.View.{View}
+use Rattle.slot_table.specs.declared.view.Role.TheVariants.{Share, Draft, Reference}
+use Rattle.slot_table.specs.Addresses.{LayoutOk, size_of}
+use Rattle.slot_table.specs.Literals.{rows_of}
+use Rattle.slot_table.specs.Seats.{Once}
+use Rattle.slot_table.specs.Holdings.{Below}
+use Rattle.slot_table.specs.Steps.{frees_of, IsAll}
+use Rattle.slot_table.specs.Owners.{HeapId, PassSeen, DraftSeen, RefSeen, Ended}
+
+-- the heap's table has the words of its layout and literals, and no slot
+pub record IsHeap (z : HeapId) (key_layout : Layout) (key_literals : List (List ℕ)) (count : ℕ) : Type 0 where
+  pub layout_is : key_layout ≡ z.layout
+  pub literals_are : key_literals ≡ z.literals
+  pub words_are : z.table.words ≡ size_of z.layout + length (rows_of z.literals)
+  pub no_slots : z.table.slots ≡ 0
+  pub laid : LayoutOk z.layout
+  pub counted : count ≡ length z.literals
+  pub few : length z.literals ≤ 256
+
+-- the seat is one of the heap's table, and holds no slot of the table
+pub record IsTied (z : HeapId) (s : Seat ℕ View) : Type 0 where
+  pub same : s.table_id ≡ z.table
+  pub empty : s.me.1 ≡ []
+  pub layout_is : s.me.0.layout ≡ z.layout
+  pub literals_are : s.me.0.literals ≡ z.literals
+  pub laid : LayoutOk z.layout
+
+pub record IsPass (v : View) (free : List ℕ) (room credits : ℕ) : Type 0 where
+  pub role : v.role ≡ Share
+  pub no_draft : v.draft ≡ None
+  pub stake : 1 ≤ credits
+  pub most : credits ≤ v.layout.credits
+  pub credits_are : v.credits ≡ credits
+  pub free_is : v.free ≡ free
+  pub once : Once v.layout.slots free
+  pub roomy : v.layout.slots ≤ room
+  pub below_front : Below v.front v.places
+
+-- the seat has every credit and every slot of its heap
+pub record IsWhole (fits : List ℕ → List ℕ → Type 0) (v : View) (free : List ℕ) (room : ℕ) : Type 0 where
+  pub role : v.role ≡ Share
+  pub no_draft : v.draft ≡ None
+  pub every : v.credits ≡ v.layout.credits
+  pub free_is : v.free ≡ free
+  pub roomy : v.layout.slots ≤ room
+  pub ends : IsAll fits v
+
+pub record IsDraft (v : View) (slot count : ℕ) : Type 0 where
+  pub role : v.role ≡ Draft
+  pub draft_is : v.draft ≡ Some slot
+  pub below : slot < v.layout.slots
+  pub count_is : count ≡ length v.written
+  pub room : count ≤ v.layout.capacity_words
+  pub one_credit : v.credits ≡ 1
+  pub no_slots : v.free ≡ []
+  pub below_front : Below v.front v.places
+
+pub record IsRef (v : View) (slot : ℕ) (sole bare : Bool) : Type 0 where
+  pub role : v.role ≡ Reference
+  pub slot_is : v.slot ≡ slot
+  pub below : slot < v.layout.slots
+  pub room : length v.known ≤ v.layout.capacity_words
+  pub one_credit : v.credits ≡ 1
+  pub no_slots : v.free ≡ []
+  pub no_draft : v.draft ≡ None
+  pub light : v.weight ≡ 1
+  pub sole_is : v.sole ≡ sole
+  pub bare_is : v.bare ≡ bare
+  pub below_front : Below v.front v.places
+
+-- the seat is a share or a draft, which leaves these slots and credits
+pub record IsLoose (v : View) (free : List ℕ) (credits : ℕ) : Type 0 where
+  pub left : ((v.role ≡ Share) × (v.draft ≡ None)) ⊎ ((d : ℕ) × (v.role ≡ Draft) × (v.draft ≡ Some d))
+  pub credits_are : v.credits ≡ credits
+  pub free_is : frees_of v.draft v.free ≡ free
+  pub below_front : Below v.front v.places
+
+-- what contracts see of an owner, by what its seat knows
+abbrev pub pass_seen : HeapId → View → PassSeen
+pass_seen z v = record { heap = z; front = v.front; places = v.places; free = v.free; credits = v.credits }
+
+abbrev pub heap_seen : TableId → View → HeapId
+heap_seen t v = record { table = t; layout = v.layout; literals = v.literals }
+
+abbrev pub draft_seen : HeapId → View → ℕ → DraftSeen
+draft_seen z v slot = record { heap = z; front = v.front; places = v.places; slot = slot; written = v.written }
+
+abbrev pub ref_seen : HeapId → View → RefSeen
+ref_seen z v = record { heap = z; front = v.front; places = v.places; slot = v.slot; known = v.known; sole = v.sole; bare = v.bare; side = v.side; side_words = v.side_words }
+
+abbrev pub ended_seen : View → ℕ → ℕ → Ended
+ended_seen v slots idle = record { slots = slots; idle = idle; layout = v.layout; history = v.front; places = v.places }
+
+-- what a share or a draft leaves
+abbrev pub loose_seen : HeapId → View → List ℕ → PassSeen
+loose_seen z v free = record { heap = z; front = v.front; places = v.places; free = free; credits = v.credits }
