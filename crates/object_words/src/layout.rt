@@ -1,0 +1,55 @@
+//! The places and the marks of an object's two words.
+
+/// The most bytes that a Small value holds.
+pub const SMALL_CAPACITY: usize = 15;
+
+/// The bytes of one word.
+pub const WORD_BYTES: usize = 8;
+
+/// The bytes of both words.
+pub const OBJECT_BYTES: usize = 16;
+
+/// The bit of word 0 that says "ASCII".
+pub const ASCII_BIT: u32 = 63;
+
+/// The bit of word 0 that says "in NFC".
+pub const NFC_BIT: u32 = 62;
+
+/// The bit of word 0 that says "natively stored".
+pub const NATIVE_BIT: u32 = 61;
+
+/// The bit of word 0 that says "UTF-8 in a row of the table, after its count word".
+pub const TABLE_BIT: u32 = 60;
+
+/// The bit of word 0 that says "UTF-16".
+pub const UTF16_BIT: u32 = 59;
+
+/// How many bits of word 0 hold the number of code units, from bit 0 up.
+pub const COUNT_WIDTH: u32 = 48;
+
+/// How many bits of word 1 hold the number of a slot or a literal, from bit 0 up.
+pub const SLOT_WIDTH: u32 = 32;
+
+/// The lowest bit of the byte of word 1 that tells the form.
+pub const TOP_SHIFT: u32 = 56;
+
+/// That byte of a Native value.
+pub const NATIVE_TOP: u64 = 0x00;
+
+/// That byte of a Foreign value.
+pub const FOREIGN_TOP: u64 = 0x10;
+
+/// That byte of an Owned value.
+pub const OWNED_TOP: u64 = 0x20;
+
+/// That byte of a Literal value.
+pub const LITERAL_TOP: u64 = 0x80;
+
+/// That byte of a Small value that isn't ASCII, less the number of its bytes: the lowest of all Small values.
+pub const SMALL_TOP: u64 = 0xA0;
+
+/// That byte of a Small value that is ASCII, less the number of its bytes.
+pub const SMALL_ASCII_TOP: u64 = 0xE0;
+
+/// How many lengths a Small value may have: the number of its bytes is the rest of its top byte by this.
+pub const SMALL_COUNTS: u64 = 16;
