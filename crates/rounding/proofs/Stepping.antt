@@ -1,0 +1,44 @@
+-- What one scalar more does to a walk.
+use Rattle.std.proofs.Common.{◌≡◌, sym, ap, ◌∙◌, ℕ, zero, suc, ◌+◌, ◌*◌, ◌<◌, ◌≤◌, ◌^◌, ⊎_elim, List, [], ◌∷◌, length, arith}
+use Rattle.std.proofs.lemmas.Bool.{cases_lt}
+use Rattle.text_spec.specs.declared.encoding.Encoding.{Encoding}
+use Rattle.text_spec.specs.Offsets.{start, down}
+use Rattle.text_spec.specs.Views.{width_in, other_width, size_in}
+use Rattle.text_spec.proofs.Walk.{start-mono}
+use Rattle.text_spec.proofs.Widths.{width_some, other_most}
+use Rattle.word_units.specs.Walking.{Passes}
+use Rattle.rounding.specs.Resolving.{Reaches}
+
+-- a scalar has at most four units of one encoding for each of the other
+pub other_bound : (e : Encoding) (b : List ℕ) (k : ℕ) → start (other_width e) b k ≤ 4 * start (width_in e) b k
+other_bound e [] k = omega arith
+other_bound e (c ∷ b) zero = omega arith
+other_bound e (c ∷ b) (suc k) = omega (arith, other_bound e b k, width_some e c, other_most e c)
+
+-- a boundary before another is that of an earlier scalar
+pub earlier : (w : ℕ → ℕ) (b : List ℕ) (at to : ℕ) → start w b (down w b at) ≡ at → start w b (down w b to) ≡ to → at < to → down w b at < down w b to
+earlier w b at to here there before =
+    ⊎_elim (λ h. h) (λ (h : down w b to ≤ down w b at). absurd (omega (arith, here, there, before, start-mono w b (down w b to) (down w b at) h)))
+    (cases_lt (down w b at) (down w b to))
+
+-- the next boundary, which isn't after the end of the walk
+pub record Stepped (e : Encoding) (b : List ℕ) (at to next units : ℕ) : Type 0 where
+  pub reaches : Reaches e b next units
+  pub within : next ≤ to
+  pub before : down (width_in e) b at + 1 ≤ down (width_in e) b to
+  pub number : down (width_in e) b next ≡ down (width_in e) b at + 1
+  pub few : units ≤ 4 * next
+
+pub stepped : (e : Encoding) (b : List ℕ) (at units to next more : ℕ) → Reaches e b at units → Passes e b at next more
+    → at < to → start (width_in e) b (down (width_in e) b to) ≡ to → Stepped e b at to next (units + more)
+stepped e b at units to next more reached passes before there =
+    let w = width_in e in
+    let first = earlier w b at to reached.boundary there before in
+    let offset : start (other_width e) b (down w b next) ≡ units + more = omega (arith, passes.other, reached.offset) in
+    record {
+      reaches = record { boundary = passes.boundary; offset = offset };
+      within = omega (arith, passes.boundary, there, start-mono w b (down w b next) (down w b to) (omega (arith, passes.number, first)));
+      before = omega (arith, first);
+      number = passes.number;
+      few = omega (arith, offset, passes.boundary, other_bound e b (down w b next));
+    }

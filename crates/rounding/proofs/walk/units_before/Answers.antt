@@ -1,0 +1,28 @@
+use Rattle.std.proofs.Common.{◌≡◌, ℕ, ◌+◌, ◌*◌, ◌<◌, ◌≤◌, ◌^◌, rules, arith, sym, subst, ap, ◌∙◌}
+use Rattle.word_units.specs.Walking.{Passes}
+use Rattle.rounding.proofs.Stepping.{Stepped, stepped}
+use Rattle.rounding.proofs.walk.units_before.Given.{Over}
+use Rattle.rounding.proofs.walk.units_before.Goals as goal
+
+-- the scalar that is passed, of the text as it was
+step : (g : Over) (c : goal.After-pass_scalar-next g)
+    → Stepped (g.T.Text.storage c.args.t.now) (g.T.Text.whole c.args.t.now) c.scalars.at c.args.to c.pass_scalar-next.result.0 (c.scalars.reached + c.pass_scalar-next.result.1)
+step g c =
+    stepped _ _ _ _ _ _ _ c.scalars.invariant.reaches
+    (subst (λ t. Passes (g.T.Text.storage t) (g.T.Text.whole t) c.scalars.at c.pass_scalar-next.result.0 c.pass_scalar-next.result.1) c.scalars.invariant.same c.pass_scalar-next.ensures.passes)
+    c.scalars-test.true c.requires.boundary
+
+pub overflow_add-reached : goal.overflow_add-reached
+overflow_add-reached g c =
+    let next = step g c in
+    omega (arith, next.few, next.within, c.requires.inside, c.count-count.ensures.value, c.count-count.ensures.small)
+
+pub scalars-preserved : goal.scalars-preserved
+scalars-preserved g c =
+    let next = step g c in
+    record {
+      reaches = next.reaches;
+      not_after = next.within;
+      same = c.pass_scalar-next.ensures.kept ∙ c.scalars.invariant.same;
+      cost = omega (arith, c.pass_scalar-next.ensures.cost, c.scalars.invariant.cost, next.number);
+    }

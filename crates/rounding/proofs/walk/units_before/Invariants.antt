@@ -1,0 +1,17 @@
+use Rattle.std.proofs.Common.{◌≡◌, ◌+◌, ◌-◌, ◌*◌, ◌≤◌}
+use Rattle.text_spec.specs.Offsets.{down}
+use Rattle.text_spec.specs.Views.{width_in}
+use Rattle.rounding.specs.Resolving.{Reaches}
+use Rattle.rounding.proofs.walk.units_before.Given as goal
+
+-- the scalars so far are passed
+abbrev pub invariant-scalars : goal.invariant-scalars
+invariant-scalars g l = record {
+  reaches : Reaches (g.T.Text.storage l.fn.t) (g.T.Text.whole l.fn.t) l.at l.reached;
+  not_after : l.at ≤ l.to;
+  same : l.t ≡ l.fn.t;
+  cost : l.steps + 2 * down (width_in (g.T.Text.storage l.fn.t)) (g.T.Text.whole l.fn.t) l.from ≤ l.fn.steps + 2 * down (width_in (g.T.Text.storage l.fn.t)) (g.T.Text.whole l.fn.t) l.at;
+}
+
+abbrev pub decreases-scalars : goal.decreases-scalars
+decreases-scalars g l = l.to - l.at

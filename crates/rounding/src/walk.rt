@@ -1,0 +1,77 @@
+//! Walks from scalar to scalar that count the units of both encodings.
+ghost use Rattle.std.specs.Prelude.{◌≡◌, ◌+◌, ◌*◌, ◌<◌, ◌≤◌, ◌⊎◌, suc};
+ghost use Rattle.text_spec.specs.Offsets.{start, down};
+ghost use Rattle.text_spec.specs.Views.{width_in, other_width, size_in};
+ghost use Rattle.rounding.specs.Resolving.{Reaches};
+
+use std::sync::ledger::Ledger;
+use word_units::{Steps, Text, pass_scalar};
+
+/// How many units of the other encoding lie before `to`, of which `units` lie before `from`.
+///
+/// Both are scalar boundaries, in code units of the storage. At most two words a scalar between them are read.
+pub fn units_before<T: Text, L: Ledger>(
+    t: &mut T,
+    from: u64,
+    units: u64,
+    to: u64,
+    steps: &mut Steps<L>,
+) -> u64
+    requires begun { Reaches (T.storage t.old) (T.whole t.old) from units }
+    requires order { from ≤ to }
+    requires inside { to ≤ size_in (T.storage t.old) (T.whole t.old) }
+    requires boundary { start (width_in (T.storage t.old)) (T.whole t.old) (down (width_in (T.storage t.old)) (T.whole t.old) to) ≡ to }
+    ensures units { Reaches (T.storage t.old) (T.whole t.old) to result }
+    ensures kept { t.new ≡ t.old }
+    ensures cost { steps.new + 2 * down (width_in (T.storage t.old)) (T.whole t.old) from ≤ steps.old + 2 * down (width_in (T.storage t.old)) (T.whole t.old) to }
+{
+    let _count = t.count();
+    let mut at = from;
+    let mut reached = units;
+    'scalars: while at < to {
+        let (next, more) = pass_scalar(t, at, steps);
+        at = next;
+        reached += more;
+    }
+    reached
+}
+
+/// The last scalar boundary that has at most `offset` units of the other encoding before it, and how many those are.
+///
+/// It isn't after `to`. The walk starts at the boundary `from`, which has `units`, at most `offset`, before it. All but
+/// `offset` and `units` are in code units of the storage. At most two words a scalar are read, and those of one more.
+pub fn boundary_of<T: Text, L: Ledger>(
+    t: &mut T,
+    from: u64,
+    units: u64,
+    to: u64,
+    offset: u64,
+    steps: &mut Steps<L>,
+) -> (u64, u64)
+    requires begun { Reaches (T.storage t.old) (T.whole t.old) from units }
+    requires order { from ≤ to }
+    requires inside { to ≤ size_in (T.storage t.old) (T.whole t.old) }
+    requires boundary { start (width_in (T.storage t.old)) (T.whole t.old) (down (width_in (T.storage t.old)) (T.whole t.old) to) ≡ to }
+    requires before { units ≤ offset }
+    ensures reached { Reaches (T.storage t.old) (T.whole t.old) result.0 result.1 }
+    ensures ahead { from ≤ result.0 }
+    ensures not_after { (result.0 ≤ to) × (result.1 ≤ offset) }
+    ensures last { (result.0 ≡ to) ⊎ ((result.0 < to)
+        × (offset < start (other_width (T.storage t.old)) (T.whole t.old) (suc (down (width_in (T.storage t.old)) (T.whole t.old) (result.0))))) }
+    ensures kept { t.new ≡ t.old }
+    ensures cost { steps.new + 2 * down (width_in (T.storage t.old)) (T.whole t.old) from
+        ≤ steps.old + 2 * down (width_in (T.storage t.old)) (T.whole t.old) to }
+{
+    let _count = t.count();
+    let mut at = from;
+    let mut reached = units;
+    'scalars: while at < to {
+        let (next, more) = pass_scalar(t, at, steps);
+        if offset - reached < more {
+            return (at, reached);
+        }
+        at = next;
+        reached += more;
+    }
+    (at, reached)
+}

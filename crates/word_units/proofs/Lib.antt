@@ -1,0 +1,4 @@
+pub mod Owned
+pub mod Telling
+pub mod Backing
+pub mod Passing

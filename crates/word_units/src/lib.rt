@@ -1,0 +1,30 @@
+//! Texts as packed words: the trait that every text of the product has, a counter of the words that are read, and the readers of
+//! bytes, units and scalars on which all views stand.
+//!
+//! Content words hold eight bytes of UTF-8, or four units of UTF-16, each with the least first: byte `p` is bits `8 * (p % 8)` on of
+//! word `p / 8`, unit `p` is bits `16 * (p % 4)` on of word `p / 4`. A surrogate without its other half reads as U+FFFD. What words
+//! denote stands in `specs/Packed.antt` of text_spec. Start at `text.rt`. No call takes memory.
+//! Source: The Unicode Standard, section 3.9; the packing and the repair are ours.
+#![tactic(auto)]
+
+mod bounds;
+mod floor;
+mod packing;
+mod reading;
+mod scalar;
+mod steps;
+mod text;
+mod vec_text;
+mod walk;
+
+pub use bounds::OutOfBounds;
+pub use floor::boundary_at_or_before;
+pub use reading::{byte_at, unit_at};
+pub use scalar::scalar_at;
+pub use steps::Steps;
+pub use text::Text;
+pub use vec_text::VecText;
+pub use walk::pass_scalar;
+
+#[cfg(test)]
+mod tests;

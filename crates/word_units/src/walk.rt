@@ -1,0 +1,36 @@
+ghost use Rattle.std.specs.Prelude.{◌≡◌, ◌+◌, ◌<◌, ◌≤◌};
+ghost use Rattle.text_spec.specs.Offsets.{start, down};
+ghost use Rattle.text_spec.specs.Views.{width_in, other_width, size_in};
+ghost use Rattle.word_units.specs.Walking.{Passes};
+
+use crate::scalar::scalar_at;
+use crate::steps::Steps;
+use crate::text::Text;
+use std::sync::ledger::Ledger;
+use text_spec::{Encoding, scalar_len16};
+
+/// How many code units a scalar takes in the encoding that isn't this one.
+fn other_len(encoding: Encoding, scalar: char) -> u32
+    ensures { result ≡ other_width encoding scalar }
+{
+    match encoding {
+        Encoding::Utf8 => scalar_len16(scalar),
+        Encoding::Utf16 => scalar.len_utf8() as u32,
+    }
+}
+
+/// Where the scalar that begins at `at` ends, and how many code units of the other encoding it takes: 1 to 4.
+///
+/// `at` is a scalar boundary of the storage below its end, in code units. At most two words are read.
+pub fn pass_scalar<T: Text, L: Ledger>(t: &mut T, at: u64, steps: &mut Steps<L>) -> (u64, u64)
+    requires inside { at < size_in (T.storage t.old) (T.whole t.old) }
+    requires boundary { start (width_in (T.storage t.old)) (T.whole t.old) (down (width_in (T.storage t.old)) (T.whole t.old) at) ≡ at }
+    ensures passes { Passes (T.storage t.old) (T.whole t.old) at result.0 result.1 }
+    ensures kept { t.new ≡ t.old }
+    ensures cost { steps.new ≤ steps.old + 2 }
+{
+    let _count = t.count();
+    let encoding = t.encoding();
+    let (scalar, width) = scalar_at(t, at, steps);
+    (at + width as u64, other_len(encoding, scalar) as u64)
+}
