@@ -1,0 +1,20 @@
+//! The value: a text of Unicode scalars that names denote, made from UTF-8 bytes and given back to its pass.
+//!
+//! A `Str` is seen by contracts as its text, a list of scalars, and never by how it keeps it. Its storage is UTF-8 bytes
+//! (the Unicode Standard, chapter 3) in a vector of its own: no shared storage is built yet, so a `Pass` shows no free slot,
+//! no credit and no literal. The lifetime `'h` is that of the heap that values will be stored in.
+//!
+//! Meaning: `specs/Meaning.antt`. Start at `value.rt`.
+#![tactic(auto)]
+
+mod error;
+mod lengths;
+mod pass;
+#[cfg(test)]
+mod tests;
+mod value;
+
+pub use error::MakeError;
+pub use lengths::Lengths;
+pub use pass::Pass;
+pub use value::{MAX_TEXT_BYTES, Str};
