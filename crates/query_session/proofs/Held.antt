@@ -1,0 +1,82 @@
+-- A map under texts, as the finite map that it shows.
+use Rattle.std.proofs.Common.{◌≡◌, refl, sym, ap, ◌∙◌, Bool, true, false, cond, ◌||◌, ◌+◌, ◌<◌, nat_lt, is_some, T, subst, List, [], ◌∷◌, ℕ, map, Option, Some, None, String, string_bytes, Bor}
+use Rattle.std.specs.Option.{option_map, option_copied}
+use Rattle.std.specs.Ordering.{nat_cmp, eq_by_cmp, is_eq}
+use Rattle.std.specs.Cmp.Lexicographic.{slice_cmp, nat_list_cmp_total}
+use Rattle.std.specs.declared.alloc.Global.{Global}
+use Rattle.std.specs.FinMap as finite
+use Rattle.std.specs.Str.{bytes_eq}
+use Rattle.std.specs.BTreeMap.{BTreeMap, get_by_text, is_at}
+use Rattle.std.specs.Map.{lookup}
+use Rattle.std.proofs.lemmas.Cmp.{eq_by_cmp_equiv}
+use Rattle.std.proofs.lemmas.Map.Text.{is_eq-slice_cmp}
+use Rattle.str_value.specs.Meaning.{Meaning}
+use Rattle.std.proofs.lemmas.Bool.{ltb-true}
+use Rattle.query_session.specs.State.{has_room}
+use Rattle.query_session.specs.Held.{held, text_entry}
+
+abbrev pub Values : Type 0
+Values = BTreeMap (String Global) Meaning
+
+-- the text that stands under bytes
+abbrev find_text : List ℕ → List (String Global × Meaning) → Option (List ℕ)
+find_text q [] = None
+find_text q (e ∷ es) = cond (is_eq (slice_cmp nat_cmp q (string_bytes e.0))) (Some (e.1.text)) (find_text q es)
+
+find-text_entry : (q : List ℕ) (es : List (String Global × Meaning)) → finite.find (slice_cmp nat_cmp) q (map text_entry es) ≡ find_text q es
+find-text_entry q [] = refl
+find-text_entry q (e ∷ es) = ap (cond (is_eq (slice_cmp nat_cmp q (string_bytes e.0))) (Some (e.1.text))) (find-text_entry q es)
+
+option_map-cond : {A B : Type 0} (f : A → B) (b : Bool) (x : A) (rest : Option A) → option_map f (cond b (Some x) rest) ≡ cond b (Some (f x)) (option_map f rest)
+option_map-cond f b x rest = elim b as (λ v. option_map f (cond v (Some x) rest) ≡ cond v (Some (f x)) (option_map f rest)) [ true ↦ refl | false ↦ refl ]
+
+lookup-find_text : (q : List ℕ) (es : List (String Global × Meaning))
+    → option_map (λ (m : Meaning). m.text) (lookup (is_at (λ k. slice_cmp nat_cmp q (string_bytes k))) es) ≡ find_text q es
+lookup-find_text q [] = refl
+lookup-find_text q (e ∷ es) =
+    option_map-cond (λ (m : Meaning). m.text) (is_eq (slice_cmp nat_cmp q (string_bytes e.0))) (e.1) (lookup (is_at (λ k. slice_cmp nat_cmp q (string_bytes k))) es)
+    ∙ ap (cond (is_eq (slice_cmp nat_cmp q (string_bytes e.0))) (Some (e.1.text))) (lookup-find_text q es)
+
+-- what the map that the entries make has under bytes
+pub get-held : (m : Values) (q : List ℕ) → finite.get (held m.entries) q ≡ option_map (λ (v : Meaning). v.text) (get_by_text m q)
+get-held m q = finite.get-from_entries nat_list_cmp_total (map text_entry m.entries) q ∙ find-text_entry q m.entries ∙ sym (lookup-find_text q m.entries)
+
+-- maps that differ under one name
+pub held-insert : (m n : Values) (name : List ℕ) (v : Meaning)
+    → ((q : List ℕ) → get_by_text n q ≡ cond (bytes_eq name q) (Some v) (get_by_text m q))
+    → held n.entries ≡ finite.insert (held m.entries) name (v.text)
+held-insert m n name v h =
+    finite.same_map nat_list_cmp_total (finite.slice_cmp-IsAntisymmetric finite.nat_cmp-IsAntisymmetric) _ _ (λ q.
+    get-held n q ∙ ap (option_map (λ (x : Meaning). x.text)) (h q)
+    ∙ option_map-cond (λ (x : Meaning). x.text) (bytes_eq name q) v (get_by_text m q)
+    ∙ ap (λ b. cond b (Some (v.text)) (option_map (λ (x : Meaning). x.text) (get_by_text m q))) (sym (is_eq-slice_cmp name q) ∙ (eq_by_cmp_equiv nat_list_cmp_total).symm name q)
+    ∙ sym (finite.get-insert nat_list_cmp_total (held m.entries) name (v.text) q ∙ ap (cond (eq_by_cmp (slice_cmp nat_cmp) q name) (Some (v.text))) (get-held m q)))
+
+-- the text that a look-up lends
+pub lent_text : (r : Option (Bor Meaning)) → option_map (λ (s : Bor Meaning). s.now.text) r ≡ option_map (λ (v : Meaning). v.text) (option_copied r)
+lent_text None = refl
+lent_text (Some s) = refl
+
+-- how many names there are, after one that is new and after one that was there
+pub len-new : (m n : Values) (name t : List ℕ) → held n.entries ≡ finite.insert (held m.entries) name t → get_by_text m name ≡ None
+    → finite.len (held n.entries) ≡ finite.len (held m.entries) + 1
+len-new m n name t same none =
+    ap finite.len same ∙ finite.len-insert nat_list_cmp_total (held m.entries) name t
+    ∙ ap (λ o. cond (is_some o) (finite.len (held m.entries)) (finite.len (held m.entries) + 1)) (get-held m name ∙ ap (option_map (λ (v : Meaning). v.text)) none)
+
+pub len-same : (m n : Values) (name t : List ℕ) (old : Meaning) → held n.entries ≡ finite.insert (held m.entries) name t → get_by_text m name ≡ Some old
+    → finite.len (held n.entries) ≡ finite.len (held m.entries)
+len-same m n name t old same some =
+    ap finite.len same ∙ finite.len-insert nat_list_cmp_total (held m.entries) name t
+    ∙ ap (λ o. cond (is_some o) (finite.len (held m.entries)) (finite.len (held m.entries) + 1)) (get-held m name ∙ ap (option_map (λ (v : Meaning). v.text)) some)
+
+second_true : (a b : Bool) → (a || b) ≡ true → a ≡ false → b ≡ true
+second_true true b e f = absurd (subst T f tt)
+second_true false b e f = e
+
+-- where a name is new and there is room for it, the limit isn't reached
+pub below_limit : (m : Values) (name : List ℕ) → has_room (held m.entries) name ≡ true → get_by_text m name ≡ None → finite.len (held m.entries) < 256
+below_limit m name room none =
+    ltb-true (finite.len (held m.entries)) 256
+    (second_true (is_some (finite.get (held m.entries) name)) (nat_lt (finite.len (held m.entries)) 256) room
+    (ap is_some (get-held m name ∙ ap (option_map (λ (v : Meaning). v.text)) none)))

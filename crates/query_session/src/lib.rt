@@ -1,0 +1,16 @@
+//! A session: names and their texts, and what a command does with them.
+//!
+//! Contracts see a session as a state, a finite map from names to lists of scalars. A step takes one command and gives its reply
+//! and the new state, which are those of the definition `reply_to`.
+//!
+//! Meaning: `specs/State.antt`, `specs/Answers.antt`, `specs/Reply.antt`. Start at `session.rt`.
+#![tactic(auto)]
+
+mod answers;
+mod boundary;
+mod names;
+mod session;
+#[cfg(test)]
+mod tests;
+
+pub use session::Session;

@@ -1,0 +1,247 @@
+//! The session and its calls.
+ghost use Rattle.std.specs.Prelude.{◌≡◌, ◌<◌, ◌≤◌, true, false, is_err, chars, string_bytes, IfOk, OnErr, IsUtf8};
+ghost use Rattle.std.specs.FinMap as finite;
+ghost use Rattle.query_lines.specs.WellFormed.{IsWellFormed, IsWellFormedContent, IsName, IsShortText};
+ghost use Rattle.query_lines.specs.Replies.{IsShown};
+ghost use Rattle.query_lines.specs.Commands.{are_built_ops};
+ghost use Rattle.query_session.specs.Answers.{op_replies};
+ghost use Rattle.query_session.specs.Reply.{reply_to, load_reply, results_or_not_built};
+
+use crate::answers::{all_built, answer_all};
+use crate::names::Names;
+use outside::Gate;
+use query_lines::{Bytes, Command, Content, Op, Ops, Refusal, Reply};
+use std::alloc::Global;
+use std::marker::Model;
+use std::thread::Threads;
+use str_value::{MakeError, Pass, Str};
+use text_spec::OutOfMemory;
+
+/// How many names may be in use.
+const MAX_NAMES: usize = 256;
+
+/// Names and their texts.
+#[derive(Drop)]
+pub struct Session<'h> {
+    pass: Pass<'h>,
+    names: Names<'h>,
+    workers: u32,
+    failed: bool,
+}
+
+impl<'h> Model for Session<'h> {
+    ghost use Rattle.std.specs.FinMap as finite;
+    ghost use Rattle.std.specs.Coded.{coded_ℕ, coded_bool, coded_list, coded×, code_by};
+    ghost use Rattle.query_session.specs.Session.{Shown, shown_code};
+
+    ghost Value = { Shown };
+
+    ghost coded = { shown_code };
+
+    ghost view = { λ s. record { state = s.names; workers = s.workers; failed = s.failed; pass = s.pass } };
+}
+
+impl<'h> Session<'h> {
+    /// A session in which no name is in use, over the values that the pass can make. `workers` do the jobs of a batch, 1 to 8.
+    pub fn new(alloc: Global, pass: Pass<'h>, workers: u32) -> Result<Session<'h>, OutOfMemory>
+        requires some { 1 ≤ workers }
+        requires few { workers ≤ 8 }
+        ensures state { IfOk result (λ s. s.state ≡ finite.empty) }
+        ensures workers { IfOk result (λ s. s.workers ≡ workers) }
+        ensures failed { IfOk result (λ s. s.failed ≡ false) }
+        ensures pass { IfOk result (λ s. s.pass ≡ pass.entry) }
+    {
+        Ok(Session {
+            pass,
+            names: Names::new(alloc),
+            workers,
+            failed: false,
+        })
+    }
+
+    /// The reply to a command, and the state after it.
+    ///
+    /// No earlier step may have answered `OutOfMemory`. Where this one does, each name has the text that it had before.
+    pub fn step<R: Threads + Sync, G: Gate>(
+        &mut self,
+        alloc: Global,
+        _rt: &R,
+        command: Command,
+        _gate: &G,
+    ) -> Result<Reply, OutOfMemory>
+        requires well_formed { IsWellFormed command }
+        requires whole { self.old.failed ≡ false }
+        ensures reply { IfOk result (λ r. (r, self.new.state) ≡ reply_to self.old.state command) }
+        ensures shown { IfOk result IsShown }
+        ensures kept { OnErr result (self.new.state ≡ self.old.state) }
+        ensures failed { self.new.failed ≡ is_err result }
+        ensures workers { self.new.workers ≡ self.old.workers }
+        ensures pass { self.new.pass ≡ self.old.pass }
+    {
+        match reply(&mut self.pass, &mut self.names, alloc, command) {
+            Ok(reply) => Ok(reply),
+            Err(refused) => {
+                self.failed = true;
+                Err(refused)
+            }
+        }
+    }
+
+    /// Releases every value. No step may have answered `OutOfMemory`.
+    pub fn end(self) -> Pass<'h>
+        requires { self.failed ≡ false }
+        ensures { result ≡ self.entry.pass }
+    {
+        let Session {
+            mut pass,
+            names,
+            workers: _,
+            failed: _,
+        } = self;
+        names.release(&mut pass);
+        pass
+    }
+
+    /// Drops what is left after a step that answered `OutOfMemory`.
+    pub fn give_up(self)
+        requires { self.failed ≡ true }
+    {
+        drop(self);
+    }
+}
+
+fn reply<'h>(
+    pass: &mut Pass<'h>,
+    names: &mut Names<'h>,
+    alloc: Global,
+    command: Command,
+) -> Result<Reply, OutOfMemory>
+    requires { IsWellFormed command }
+    ensures reply { IfOk result (λ r. (r, names.new) ≡ reply_to names.old command) }
+    ensures shown { IfOk result IsShown }
+    ensures kept { OnErr result (names.new ≡ names.old) }
+    ensures pass { pass.new ≡ pass.old }
+{
+    match command {
+        Command::Load { name, what } => load_content(pass, names, alloc, name, what),
+        Command::On { name, ops } => on(names, alloc, name, ops),
+        Command::Copy { .. } => Ok(not_built()),
+        Command::Drop { .. } => Ok(not_built()),
+        Command::Compare { .. } => Ok(not_built()),
+        Command::Batch { .. } => Ok(not_built()),
+    }
+}
+
+fn not_built() -> Reply
+    ensures { result ≡ Reply.Refused Refusal.NotBuilt }
+{
+    Reply::Refused(Refusal::NotBuilt)
+}
+
+fn load_content<'h>(
+    pass: &mut Pass<'h>,
+    names: &mut Names<'h>,
+    alloc: Global,
+    name: Bytes,
+    what: Content,
+) -> Result<Reply, OutOfMemory>
+    requires name { IsName name }
+    requires what { IsWellFormedContent what }
+    ensures reply { IfOk result (λ r. (r, names.new) ≡ reply_to names.old (Command.Load name what)) }
+    ensures shown { IfOk result IsShown }
+    ensures kept { OnErr result (names.new ≡ names.old) }
+    ensures pass { pass.new ≡ pass.old }
+{
+    match what {
+        Content::Text(text) => load(pass, names, alloc, name, text),
+        Content::Units(_) => Ok(not_built()),
+        Content::Raw(_) => Ok(not_built()),
+        Content::Literal(_) => Ok(not_built()),
+    }
+}
+
+// Stores a text under a name, unless it would be one name too many.
+fn load<'h>(
+    pass: &mut Pass<'h>,
+    names: &mut Names<'h>,
+    alloc: Global,
+    name: Bytes,
+    text: Bytes,
+) -> Result<Reply, OutOfMemory>
+    requires name { IsName name }
+    requires text { IsShortText text }
+    ensures reply { IfOk result (λ r. (r, names.new) ≡ load_reply names.old name (chars text)) }
+    ensures shown { IfOk result IsShown }
+    ensures kept { OnErr result (names.new ≡ names.old) }
+    ensures pass { pass.new ≡ pass.old }
+{
+    let name = string_of(name);
+    if names.get(name.as_str()).is_none() && names.count() >= MAX_NAMES {
+        return Ok(Reply::Refused(Refusal::TooManyNames));
+    }
+    let value = make(pass, alloc, text.as_slice())?;
+    let lengths = value.lengths();
+    names.put(pass, name, value)?;
+    Ok(Reply::Counts {
+        scalars: lengths.scalars,
+        utf16: lengths.utf16,
+        utf8: lengths.utf8,
+    })
+}
+
+// Does ops on the text of a name.
+fn on(names: &Names, alloc: Global, name: Bytes, ops: Ops) -> Result<Reply, OutOfMemory>
+    requires { IsName name }
+    ensures reply { IfOk result (λ r. (r, names.now) ≡ reply_to names.now (Command.On name ops)) }
+    ensures shown { IfOk result IsShown }
+{
+    if !all_built(ops.as_slice()) {
+        return Ok(not_built());
+    }
+    let name = string_of(name);
+    match names.get(name.as_str()) {
+        Some(value) => answer_named(alloc, value, ops.as_slice()),
+        None => Ok(no_name(name)),
+    }
+}
+
+fn answer_named(alloc: Global, value: &Str, ops: &[Op]) -> Result<Reply, OutOfMemory>
+    requires { are_built_ops ops.now ≡ true }
+    ensures reply { IfOk result (λ r. r ≡ results_or_not_built (op_replies value.now.text 0 ops.now)) }
+    ensures shown { IfOk result IsShown }
+{
+    let replies = answer_all(alloc, value, ops)?;
+    Ok(Reply::Results(replies))
+}
+
+fn no_name(name: String) -> Reply
+    ensures reply { result ≡ Reply.Refused (Refusal.NoName (string_bytes name)) }
+    ensures shown { IsShown result }
+{
+    Reply::Refused(Refusal::NoName(Bytes::new(name.into_bytes())))
+}
+
+// The value of a text within its limit, in UTF-8.
+fn make<'h>(pass: &mut Pass<'h>, alloc: Global, text: &[u8]) -> Result<Str<'h>, OutOfMemory>
+    requires { IsShortText text.now }
+    ensures made { IfOk result (λ s. s.text ≡ chars text.now) }
+    ensures pass { pass.new ≡ pass.old }
+{
+    match Str::from_utf8(alloc, pass, text) {
+        Ok(value) => Ok(value),
+        Err(MakeError::OutOfMemory) => Err(OutOfMemory),
+        Err(MakeError::NotUtf8 { .. }) => unreachable!(),
+        Err(MakeError::TooLong { .. }) => unreachable!(),
+    }
+}
+
+// A name as a text. No memory.
+fn string_of(name: Bytes) -> String
+    requires { IsUtf8 name }
+    ensures { string_bytes result ≡ name }
+{
+    match String::from_utf8(name.into_vec()) {
+        Ok(text) => text,
+        Err(_) => unreachable!(),
+    }
+}

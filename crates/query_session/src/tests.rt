@@ -1,0 +1,130 @@
+//! What no clause says: that steps find memory, and the replies to lines that were worked out by hand.
+ghost use Rattle.std.specs.Prelude.{◌≡◌, false, OnOk};
+
+use crate::Session;
+use outside::OpenGate;
+use query_lines::{LineError, read_line, reply_text};
+use std::alloc::Global;
+use std::thread::Threads;
+use str_value::Pass;
+use text_spec::OutOfMemory;
+
+/// The text of the reply to a line, or nothing where the line is no command.
+fn answer<R: Threads + Sync>(
+    rt: &R,
+    alloc: Global,
+    session: &mut Session,
+    line: &[u8],
+) -> Result<Vec<u8>, OutOfMemory>
+    requires { session.old.failed ≡ false }
+    ensures { OnOk result (session.new.failed ≡ false) }
+{
+    if line.len() > 4096 {
+        return Ok(Vec::new(alloc));
+    }
+    match read_line(alloc, line) {
+        Ok(command) => {
+            let reply = session.step(alloc, rt, command, &OpenGate)?;
+            reply_text(alloc, &reply)
+        }
+        Err(LineError::OutOfMemory) => Err(OutOfMemory),
+        Err(_) => Ok(Vec::new(alloc)),
+    }
+}
+
+#[test]
+fn lines_get_the_replies_worked_out_by_hand(rt: HostRuntime) -> Result<(), OutOfMemory> {
+    let rows = [
+        (
+            r#"{"load":"a","text":""}"#,
+            r#"{"scalars":0,"utf16":0,"utf8":0}"#,
+        ),
+        (
+            r#"{"on":"a","do":[{"at":0},{"at":1}]}"#,
+            r#"{"results":[{"utf16":0,"utf8":0,"value":null},{"error":"out of bounds","utf16":0}]}"#,
+        ),
+        (
+            r#"{"load":"f","text":"🇩🇪🇫🇷"}"#,
+            r#"{"scalars":4,"utf16":8,"utf8":16}"#,
+        ),
+        (
+            r#"{"on":"f","do":[{"slice":[0,4]},{"slice":[1,5]},{"at":5}]}"#,
+            r#"{"results":[{"text":"🇩🇪"},{"text":"🇩🇪"},{"utf16":4,"utf8":8,"value":127467}]}"#,
+        ),
+        (
+            r#"{"load":"g","text":"😀"}"#,
+            r#"{"scalars":1,"utf16":2,"utf8":4}"#,
+        ),
+        (
+            r#"{"on":"g","do":[{"at":1},{"at":2},{"at":3}]}"#,
+            r#"{"results":[{"utf16":0,"utf8":0,"value":128512},{"utf16":2,"utf8":4,"value":null},{"error":"out of bounds","utf16":2}]}"#,
+        ),
+        (
+            r#"{"load":"t","text":"abc"}"#,
+            r#"{"scalars":3,"utf16":3,"utf8":3}"#,
+        ),
+        (
+            r#"{"on":"t","do":[{"slice":[1,1]},{"slice":[2,1]},{"slice":[0,4]},{"slice":[4,4]},{"text":true}]}"#,
+            r#"{"results":[{"text":""},{"error":"out of bounds","utf16":3},{"error":"out of bounds","utf16":3},{"error":"out of bounds","utf16":3},{"text":"abc"}]}"#,
+        ),
+        (
+            r#"{"load":"a","text":"é日x"}"#,
+            r#"{"scalars":3,"utf16":3,"utf8":6}"#,
+        ),
+        (
+            r#"{"on":"a","do":[{"at":0},{"at":1},{"at":2}]}"#,
+            r#"{"results":[{"utf16":0,"utf8":0,"value":233},{"utf16":1,"utf8":2,"value":26085},{"utf16":2,"utf8":5,"value":120}]}"#,
+        ),
+        (r#"{"on":"t","do":[]}"#, r#"{"results":[]}"#),
+        (
+            r#"{"on":"zz","do":[{"at":0}]}"#,
+            r#"{"error":"no name","name":"zz"}"#,
+        ),
+    ];
+    let mut session = Session::new(rt.alloc(), Pass::none(), 1)?;
+    for (line, wanted) in rows {
+        let reply = answer(&rt, rt.alloc(), &mut session, line.as_bytes())?;
+        assert_eq!(rt; reply.as_slice(), wanted.as_bytes(), "{line}");
+    }
+    let _pass = session.end();
+    Ok(())
+}
+
+#[test]
+fn no_more_than_256_names_are_in_use(rt: HostRuntime) -> Result<(), OutOfMemory> {
+    let mut session = Session::new(rt.alloc(), Pass::none(), 8)?;
+    for number in 0..256_u32 {
+        let line = format!(in rt.alloc(); "{{\"load\":\"n{number}\",\"text\":\"x\"}}")?;
+        let reply = answer(&rt, rt.alloc(), &mut session, line.as_bytes())?;
+        assert_eq!(rt;
+            reply.as_slice(),
+            r#"{"scalars":1,"utf16":1,"utf8":1}"#.as_bytes(),
+            "{line}"
+        );
+    }
+    let rows = [
+        (
+            r#"{"load":"m","text":"x"}"#,
+            r#"{"error":"too many names"}"#,
+        ),
+        (r#"{"on":"m","do":[]}"#, r#"{"error":"no name","name":"m"}"#),
+        (
+            r#"{"load":"n7","text":"yz"}"#,
+            r#"{"scalars":2,"utf16":2,"utf8":2}"#,
+        ),
+        (
+            r#"{"on":"n7","do":[{"text":true}]}"#,
+            r#"{"results":[{"text":"yz"}]}"#,
+        ),
+        (
+            r#"{"on":"n8","do":[{"text":true}]}"#,
+            r#"{"results":[{"text":"x"}]}"#,
+        ),
+    ];
+    for (line, wanted) in rows {
+        let reply = answer(&rt, rt.alloc(), &mut session, line.as_bytes())?;
+        assert_eq!(rt; reply.as_slice(), wanted.as_bytes(), "{line}");
+    }
+    let _pass = session.end();
+    Ok(())
+}
