@@ -1,0 +1,7 @@
+mod Cuts
+mod Folds
+mod Grown
+mod Places
+mod Progress
+mod Statuses
+mod Steps

@@ -1,0 +1,93 @@
+use Rattle.std.proofs.Common.{rules, arith, ◌≡◌, ◌<◌, ◌≤◌, [], ◌∷◌, ◌⊎◌, false, length, IfSome, OnOk, IsErrOf, ℕ, ◌+◌, ◌-◌, List, ◌++◌, sym, ap, ◌∙◌, subst, Err, Ok, Result, Option, Some, None}
+use Rattle.std.specs.Io.KnownBytes.{Appends, Consumes, IsAtEnd, Keeps}
+use Rattle.outside.specs.Bytes.{AppendsPrefix}
+use Rattle.std.proofs.Common.{append-nil}
+use Rattle.std.specs.Prelude.{IsErrAnd}
+use Rattle.std.proofs.lemmas.List.{nil_from_length}
+use Rattle.query_program.specs.Answers.{answers_from}
+use Rattle.query_program.specs.Lines.{less_empty_end}
+use Rattle.query_program.specs.Ends.{Ends, Probed, limit_stop}
+use Rattle.query_program.specs.Reads.{Filled, IsReadStopOf, IsReadStop}
+use Rattle.query_program.specs.Writes.{IsWriteStopOf, IsWriteStop, Answered}
+use Rattle.query_program.specs.declared.stop.Stop.{Stop}
+use Rattle.query_program.specs.declared.stop.Stop.TheVariants.{ReadFault}
+use Rattle.query_program.specs.declared.limits.TheConstants.{LINE_LIMIT, INPUT_LIMIT}
+use Rattle.query_program.proofs.Progress.{Progress, progress-on, ends-read, ends-write, ends-last, ends-line, ends-limit, last-end, LastEnd}
+use Rattle.query_program.proofs.stream.answer_stream.Goals as goal
+
+-- a read that gave nothing took nothing
+nothing-read : (old new : Option (List ℕ)) (bytes more : List ℕ) (most n : ℕ) → Filled old new bytes more most n → n ≡ 0 → Consumes old new [] × IsAtEnd new × (more ≡ bytes)
+nothing-read old new bytes more most n f none =
+    let empty : f.read ≡ [] = nil_from_length f.read (f.count ∙ none) in
+    (subst (Consumes old new) empty f.taken, f.end none, f.added ∙ ap (λ xs. bytes ++ xs) empty ∙ append-nil bytes)
+
+-- what an error was made of by `?`
+error-of : (r : Result (Unit {0}) Stop) (stop : Stop) → IsErrAnd r (λ e. e ≡ stop) → r ≡ Err stop
+error-of (Ok x) stop h = absurd h
+error-of (Err e) stop h = ap Err h
+
+pub returns-in_err-count-clause-ends : goal.returns-in_err-count-clause-ends
+returns-in_err-count-clause-ends g c =
+    let stop = c.in_err-count.field-0.0 in
+    subst (λ r. IfSome (g.S.Source.left c.args.source.now) (Ends c.args.session.now.state (g.S.Source.left c.fill.new.source) (g.K.Sink.written c.args.sink.now) (g.K.Sink.written c.reads.sink) r))
+    (sym (error-of c.from_residual-in_err-count.result stop c.from_residual-in_err-count.ensures.1))
+    (ends-read _ _ _ _ _ _ _ _ c.reads.invariant.progress (g.S.Source.left c.fill.new.source) stop c.in_err-count.ensures.kept.1 c.in_err-count.ensures.stops)
+
+pub returns-then-count-eq0-clause-ends : goal.returns-then-count-eq0-clause-ends
+returns-then-count-eq0-clause-ends g c =
+    let i = c.reads.invariant in
+    let n = nothing-read _ _ _ _ _ _ c.in_ok-count.ensures.filled (search rules) in
+    ends-last _ _ _ _ _ _ _ _ i.progress (g.S.Source.left c.fill.new.source) (g.K.Sink.written c.answer_last.new.sink) c.answer_last.result n.0 n.1 i.within i.fits
+    (subst (λ xs. AppendsPrefix (g.K.Sink.written c.reads.sink) (g.K.Sink.written c.answer_last.new.sink) (answers_from c.reads.session.state (less_empty_end (xs ∷ [])))) n.2 c.answer_last.ensures.begun)
+    (subst (λ xs. LastEnd c.answer_last.result (Appends (g.K.Sink.written c.reads.sink) (g.K.Sink.written c.answer_last.new.sink) (answers_from c.reads.session.state (less_empty_end (xs ∷ []))))) n.2 (last-end _ c.answer_last.result c.answer_last.ensures.answered c.answer_last.ensures.stops))
+
+pub returns-in_err-answer_lines-clause-ends : goal.returns-in_err-answer_lines-clause-ends
+returns-in_err-answer_lines-clause-ends g c =
+    let stop = c.in_err-answer_lines.field-0.0 in
+    subst (λ r. IfSome (g.S.Source.left c.args.source.now) (Ends c.args.session.now.state (g.S.Source.left c.fill.new.source) (g.K.Sink.written c.args.sink.now) (g.K.Sink.written c.answer_lines.new.sink) r))
+    (sym (error-of c.from_residual-in_err-answer_lines.result stop c.from_residual-in_err-answer_lines.ensures.1))
+    (ends-write _ _ _ _ _ _ _ _ c.reads.invariant.progress (g.S.Source.left c.fill.new.source) (g.K.Sink.written c.answer_lines.new.sink) c.fill.new.self.bytes _ _ stop
+    c.in_ok-count.ensures.filled c.in_err-answer_lines.ensures.begun c.in_err-answer_lines.ensures.stops)
+
+pub returns-then-len-gt-LINE_LIMIT-clause-ends : goal.returns-then-len-gt-LINE_LIMIT-clause-ends
+returns-then-len-gt-LINE_LIMIT-clause-ends g c =
+    let i = c.reads.invariant in
+    let p = progress-on _ _ _ _ _ _ _ _ i.progress c.answer_lines.new.session.state (g.S.Source.left c.fill.new.source) (g.K.Sink.written c.answer_lines.new.sink) c.fill.new.self.bytes c.answer_lines.new.buffer.bytes _ _
+    c.in_ok-count.ensures.filled c.in_ok-count.ensures.bound c.in_ok-answer_lines.ensures.answered in
+    ends-line _ _ _ _ _ _ _ _ p (search rules) (search rules)
+
+pub reads-preserved : goal.reads-preserved
+reads-preserved g c =
+    let i = c.reads.invariant in
+    record {
+      progress = progress-on _ _ _ _ _ _ _ _ i.progress c.answer_lines.new.session.state (g.S.Source.left c.fill.new.source) (g.K.Sink.written c.answer_lines.new.sink) c.fill.new.self.bytes c.answer_lines.new.buffer.bytes _ _
+          c.in_ok-count.ensures.filled c.in_ok-count.ensures.bound c.in_ok-answer_lines.ensures.answered;
+      within = search rules;
+      fits = search rules;
+      empty = search rules;
+      whole = search rules;
+      source_later = search rules;
+      sink_later = search rules;
+    }
+
+pub returns-in_err-read_one-clause-ends : goal.returns-in_err-read_one-clause-ends
+returns-in_err-read_one-clause-ends g c =
+    let stop = c.in_err-read_one.field-0.0 in
+    subst (λ r. IfSome (g.S.Source.left c.args.source.now) (Ends c.args.session.now.state (g.S.Source.left c.read_one.new.source) (g.K.Sink.written c.args.sink.now) (g.K.Sink.written c.reads.sink) r))
+    (sym (error-of c.from_residual-in_err-read_one.result stop c.from_residual-in_err-read_one.ensures.1))
+    (ends-read _ _ _ _ _ _ _ _ c.reads.invariant.progress (g.S.Source.left c.read_one.new.source) stop c.in_err-read_one.ensures.kept c.in_err-read_one.ensures.stops)
+
+pub returns-in-None-clause-ends : goal.returns-in-None-clause-ends
+returns-in-None-clause-ends g c =
+    let i = c.reads.invariant in
+    let r : Probed (g.S.Source.left c.reads.source) (g.S.Source.left c.read_one.new.source) None = search rules in
+    ends-last _ _ _ _ _ _ _ _ i.progress (g.S.Source.left c.read_one.new.source) (g.K.Sink.written c.answer_last-in-None.new.sink) c.answer_last-in-None.result r.0 r.1 i.within i.fits
+    c.answer_last-in-None.ensures.begun (last-end _ c.answer_last-in-None.result c.answer_last-in-None.ensures.answered c.answer_last-in-None.ensures.stops)
+
+pub returns-clause-ends : goal.returns-clause-ends
+returns-clause-ends g c =
+    let i = c.reads.invariant in
+    let r : Probed (g.S.Source.left c.reads.source) (g.S.Source.left c.read_one.new.source) (Some c.in-Some.byte) = search rules in
+    let is : c.limit_passed.result ≡ limit_stop (length c.reads.buffer.bytes) c.in-Some.byte = search rules in
+    subst (λ s. IfSome (g.S.Source.left c.args.source.now) (Ends c.args.session.now.state (g.S.Source.left c.read_one.new.source) (g.K.Sink.written c.args.sink.now) (g.K.Sink.written c.reads.sink) (Err s))) (sym is)
+    (ends-limit _ _ _ _ _ _ _ _ i.progress (g.S.Source.left c.read_one.new.source) c.in-Some.byte r (search rules) i.fits)

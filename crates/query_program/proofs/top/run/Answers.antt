@@ -1,0 +1,28 @@
+use Rattle.std.proofs.Common.{◌≡◌, ◌⊎◌, ◌↔◌, [], sym, subst, IfSome}
+use Rattle.outside.specs.Causes.{Rose}
+use Rattle.query_program.specs.Answers.{empty}
+use Rattle.query_program.specs.Limits.{HasLongLine, HasTooManyBytes, IsWithin}
+use Rattle.query_program.specs.Statuses.{IsUnhindered, status_of_end}
+use Rattle.query_program.proofs.Statuses.{if_some, Decided, decided, complete}
+use Rattle.query_program.proofs.top.run.Goals as goal
+
+pub returns-clause-line_too_long : goal.returns-clause-line_too_long
+returns-clause-line_too_long g c = λ free.
+    if_some _ _ _ (λ input d. subst (λ s. (s ≡ 6) ↔ HasLongLine input) (sym c.status_of.ensures) d.line)
+    (decided empty _ _ _ _ c.answer_input-end.result c.answer_input-end.ensures.ends (subst IsUnhindered c.status_of.ensures free))
+
+pub returns-clause-input_too_long : goal.returns-clause-input_too_long
+returns-clause-input_too_long g c = λ free.
+    if_some _ _ _ (λ input d. subst (λ s. (s ≡ 7) ↔ HasTooManyBytes input) (sym c.status_of.ensures) d.long)
+    (decided empty _ _ _ _ c.answer_input-end.result c.answer_input-end.ensures.ends (subst IsUnhindered c.status_of.ensures free))
+
+pub returns-clause-within : goal.returns-clause-within
+returns-clause-within g c = λ free.
+    if_some _ _ _ (λ input d. subst (λ s. (s ≡ 0) ↔ IsWithin input) (sym c.status_of.ensures) d.fine)
+    (decided empty _ _ _ _ c.answer_input-end.result c.answer_input-end.ensures.ends (subst IsUnhindered c.status_of.ensures free))
+
+pub returns-clause-complete : goal.returns-clause-complete
+returns-clause-complete g c = λ plain.
+    subst (λ s. IfSome (g.S.Source.left c.args.source.now) (λ input. IsWithin input → ¬ (Rose (g.S.Source.faults c.args.source.now) (g.S.Source.faults c.answer_input-end.new.source))
+    → ¬ (Rose (g.K.Sink.faults c.args.sink.now) (g.K.Sink.faults c.answer_input-end.new.sink)) → (s ≡ 0) ⊎ (s ≡ 5))) (sym c.status_of.ensures)
+    (complete empty _ _ _ _ c.answer_input-end.result _ _ c.answer_input-end.ensures.ends c.answer_input-end.ensures.read c.answer_input-end.ensures.write)

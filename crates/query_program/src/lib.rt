@@ -1,0 +1,31 @@
+//! The top call: lines come from a source, one reply to each goes to a sink, and a status says how the run ended.
+//!
+//! The bytes that are written are `answers` of the bytes that come: a fold over the lines and one state. The code
+//! has one buffer of reads, which holds at most one whole line more than it answers, and one buffer of gathered replies.
+//! Before each read every reply that is ready has been written.
+//!
+//! | file | topic |
+//! |---|---|
+//! | `top.rt` | `run`, its status |
+//! | `stream.rt` | reads, answers and limits in turn |
+//! | `replies.rt` | the reply to one line, and to all whole lines in the buffer |
+//! | `line_buffer.rt` | the buffer of reads |
+//! | `output.rt` | writing gathered replies |
+//! | `stop.rt`, `limits.rt` | why a run ends early, and the limits |
+//!
+//! Meaning: `specs/Lines.antt`, `specs/Answers.antt`, `specs/Limits.antt`. Start at `top.rt`.
+#![tactic(auto)]
+
+mod limits;
+mod line_buffer;
+mod output;
+mod replies;
+mod stop;
+mod stream;
+mod top;
+
+pub use limits::{INPUT_LIMIT, LINE_LIMIT};
+pub use top::{Ended, run};
+
+#[cfg(test)]
+mod tests;

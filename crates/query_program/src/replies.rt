@@ -1,0 +1,141 @@
+ghost use Rattle.std.specs.Prelude.{◌≡◌, ℕ, ◌+◌, ◌<◌, ◌≤◌, length, ◌++◌, ◌∷◌, ◌⊎◌, [], false, Some, IfOk, OnOk, IsErrOf};
+ghost use Rattle.memchr.specs.Find.{IsFirstByte, is_byte};
+ghost use Rattle.outside.specs.Bytes.{AppendsPrefix};
+ghost use Rattle.outside.specs.Causes.{Rose};
+ghost use Rattle.query_lines.specs.Replies.{IsShown, reply_text};
+ghost use Rattle.query_program.specs.Answers.{answer, answer_line, answers_from, state_after, state_after_line};
+ghost use Rattle.query_program.specs.Lines.{whole_lines, last_part};
+ghost use Rattle.query_program.specs.Writes.{IsWriteStopOf, Answered, AnsweredFirst};
+
+use crate::limits::LINE_LIMIT;
+use crate::line_buffer::LineBuffer;
+use crate::output::{send, send_large};
+use crate::stop::Stop;
+use outside::{Gate, Sink};
+use query_lines::{LineError, Refusal, Reply, read_line, reply_text};
+use query_session::Session;
+use std::alloc::Global;
+use std::thread::Threads;
+use text_spec::OutOfMemory;
+
+/// Answers each whole line in the buffer and writes all replies.
+///
+/// Replies are gathered and written in large pieces, each of whole replies. Time linear in the lines and the replies.
+pub(crate) fn answer_lines<'h, R: Threads + Sync, K: Sink, G: Gate>(
+    rt: &R,
+    alloc: Global,
+    gate: &G,
+    session: &mut Session<'h>,
+    buffer: &mut LineBuffer,
+    gathered: &mut Vec<u8>,
+    sink: &mut K,
+) -> Result<(), Stop>
+    requires empty { gathered.old.items ≡ [] }
+    requires short { length buffer.old.bytes ≤ LINE_LIMIT + 1 }
+    requires whole { session.old.failed ≡ false }
+    ensures answered { OnOk result (Answered session.old.state session.new.state buffer.old.bytes buffer.new.bytes (K.written sink.old) (K.written sink.new)) }
+    ensures empty { OnOk result (gathered.new.items ≡ []) }
+    ensures begun { AppendsPrefix (K.written sink.old) (K.written sink.new) (answers_from session.old.state (whole_lines buffer.old.bytes)) }
+    ensures stops { IsWriteStopOf result }
+    ensures cause { IsErrOf result Stop.WriteFault → Rose (K.faults sink.old) (K.faults sink.new) }
+    ensures later { K.faults sink.old ≤ K.faults sink.new }
+    ensures whole { IsErrOf result Stop.OutOfMemory ⊎ (session.new.failed ≡ false) }
+{
+    'lines: while let Some(length) = buffer.first_line() {
+        answer_first(rt, alloc, gate, session, buffer, length, gathered)?;
+        send_large(sink, gathered)?;
+    }
+    send(sink, gathered)
+}
+
+/// Answers the first line in the buffer, of `line_length` bytes, and takes it off with its newline.
+fn answer_first<'h, R: Threads + Sync, G: Gate>(
+    rt: &R,
+    alloc: Global,
+    gate: &G,
+    session: &mut Session<'h>,
+    buffer: &mut LineBuffer,
+    line_length: usize,
+    gathered: &mut Vec<u8>,
+) -> Result<(), OutOfMemory>
+    requires first { IsFirstByte (is_byte 10) buffer.old.bytes (Some line_length) }
+    requires short { length buffer.old.bytes ≤ LINE_LIMIT + 1 }
+    requires whole { session.old.failed ≡ false }
+    ensures whole { OnOk result (session.new.failed ≡ false) }
+    ensures answered { OnOk result (AnsweredFirst session.old.state session.new.state buffer.old.bytes buffer.new.bytes gathered.old.items gathered.new.items) }
+{
+    answer_line(
+        rt,
+        alloc,
+        gate,
+        session,
+        buffer.front(line_length),
+        gathered,
+    )?;
+    buffer.take_off(line_length + 1);
+    Ok(())
+}
+
+/// Puts the reply to a line, and a newline, behind the replies that are gathered.
+#[tactic(auto, unfolding(crate::specs::Answers::answer))]
+pub(crate) fn answer_line<'h, R: Threads + Sync, G: Gate>(
+    rt: &R,
+    alloc: Global,
+    gate: &G,
+    session: &mut Session<'h>,
+    line: &[u8],
+    gathered: &mut Vec<u8>,
+) -> Result<(), OutOfMemory>
+    requires whole { session.old.failed ≡ false }
+    requires short { length line.now ≤ LINE_LIMIT }
+    ensures reply { OnOk result (gathered.new.items ≡ gathered.old.items ++ answer session.old.state line.now) }
+    ensures state { OnOk result (session.new.state ≡ state_after_line session.old.state line.now) }
+    ensures whole { OnOk result (session.new.failed ≡ false) }
+{
+    let text = text_of_reply(rt, alloc, gate, session, line)?;
+    gathered.extend_from_slice(text.as_slice())?;
+    gathered.push(b'\n')?;
+    Ok(())
+}
+
+/// The text of the reply to a line.
+#[tactic(auto, unfolding(crate::specs::Answers::state_after_line))]
+fn text_of_reply<'h, R: Threads + Sync, G: Gate>(
+    rt: &R,
+    alloc: Global,
+    gate: &G,
+    session: &mut Session<'h>,
+    line: &[u8],
+) -> Result<Vec<u8>, OutOfMemory>
+    requires whole { session.old.failed ≡ false }
+    requires short { length line.now ≤ LINE_LIMIT }
+    ensures text { IfOk result (λ v. v.items ≡ reply_text (answer_line session.old.state line.now).0) }
+    ensures state { OnOk result (session.new.state ≡ state_after_line session.old.state line.now) }
+    ensures whole { OnOk result (session.new.failed ≡ false) }
+{
+    let reply = reply_to(rt, alloc, gate, session, line)?;
+    reply_text(alloc, &reply)
+}
+
+/// The reply to a line: what the session answers its command, or the refusal of a line that gives none.
+#[tactic(auto, unfolding(crate::specs::Answers::answer_line))]
+fn reply_to<'h, R: Threads + Sync, G: Gate>(
+    rt: &R,
+    alloc: Global,
+    gate: &G,
+    session: &mut Session<'h>,
+    line: &[u8],
+) -> Result<Reply, OutOfMemory>
+    requires whole { session.old.failed ≡ false }
+    requires short { length line.now ≤ LINE_LIMIT }
+    ensures reply { IfOk result (λ r. (r, session.new.state) ≡ answer_line session.old.state line.now) }
+    ensures shown { IfOk result IsShown }
+    ensures whole { OnOk result (session.new.failed ≡ false) }
+{
+    match read_line(alloc, line) {
+        Ok(command) => session.step(alloc, rt, command, gate),
+        Err(LineError::Syntax) => Ok(Reply::Refused(Refusal::Syntax)),
+        Err(LineError::NotBuilt) => Ok(Reply::Refused(Refusal::NotBuilt)),
+        Err(LineError::OutOfMemory) => Err(OutOfMemory),
+    }
+}

@@ -1,0 +1,116 @@
+ghost use Rattle.std.specs.Prelude.{◌≡◌, ◌<◌, ◌≤◌, [], ◌∷◌, ◌⊎◌, false, length, IfOk, IfSome, OnOk, OnErr, IsErrOf, MatchResult};
+ghost use Rattle.std.specs.Io.KnownBytes.{Appends, Consumes, IsAtEnd, Keeps};
+ghost use Rattle.outside.specs.Bytes.{AppendsPrefix};
+ghost use Rattle.outside.specs.Causes.{Rose};
+ghost use Rattle.query_program.specs.Answers.{answers_from};
+ghost use Rattle.query_program.specs.Lines.{lines, less_empty_end};
+ghost use Rattle.query_program.specs.Ends.{Ends, Probed, limit_stop};
+ghost use Rattle.query_program.specs.Reads.{IsReadStopOf};
+ghost use Rattle.query_program.specs.Writes.{IsWriteStopOf};
+
+use crate::limits::{INPUT_LIMIT, LINE_LIMIT};
+use crate::line_buffer::LineBuffer;
+use crate::output::send;
+use crate::replies::{answer_line, answer_lines};
+use crate::stop::Stop;
+use outside::{Failed, Gate, Sink, Source};
+use query_session::Session;
+use std::alloc::Global;
+use std::thread::Threads;
+
+/// Answers the lines of the source one after another, until it ends or a limit is passed.
+///
+/// Before each read every reply that is ready has been written. Time linear in the bytes read and the replies.
+pub(crate) fn answer_stream<'h, R: Threads + Sync, S: Source, K: Sink, G: Gate>(
+    rt: &R,
+    alloc: Global,
+    session: &mut Session<'h>,
+    source: &mut S,
+    sink: &mut K,
+    gate: &G,
+) -> Result<(), Stop>
+    requires { session.old.failed ≡ false }
+    ensures ends { IfSome (S.left source.old) (Ends session.old.state (S.left source.new) (K.written sink.old) (K.written sink.new) result) }
+    ensures read { IsErrOf result Stop.ReadFault → Rose (S.faults source.old) (S.faults source.new) }
+    ensures write { IsErrOf result Stop.WriteFault → Rose (K.faults sink.old) (K.faults sink.new) }
+    ensures whole { IsErrOf result Stop.OutOfMemory ⊎ (session.new.failed ≡ false) }
+{
+    let mut buffer = LineBuffer::new(alloc)?;
+    let mut gathered = Vec::new(alloc);
+    let mut total = 0;
+    'reads: while total < INPUT_LIMIT {
+        let count = buffer.fill(source, INPUT_LIMIT - total)?;
+        if count == 0 {
+            return answer_last(rt, alloc, gate, session, &buffer, &mut gathered, sink);
+        }
+        total += count;
+        answer_lines(rt, alloc, gate, session, &mut buffer, &mut gathered, sink)?;
+        if buffer.len() > LINE_LIMIT {
+            return Err(Stop::LineTooLong);
+        }
+    }
+    match read_one(source)? {
+        None => answer_last(rt, alloc, gate, session, &buffer, &mut gathered, sink),
+        Some(byte) => Err(limit_passed(buffer.len(), byte)),
+    }
+}
+
+/// Answers what stands behind the last newline, where it isn't empty.
+fn answer_last<'h, R: Threads + Sync, K: Sink, G: Gate>(
+    rt: &R,
+    alloc: Global,
+    gate: &G,
+    session: &mut Session<'h>,
+    buffer: &LineBuffer,
+    gathered: &mut Vec<u8>,
+    sink: &mut K,
+) -> Result<(), Stop>
+    requires empty { gathered.old.items ≡ [] }
+    requires short { length buffer.now.bytes ≤ LINE_LIMIT }
+    requires whole { session.old.failed ≡ false }
+    ensures answered { OnOk result (Appends (K.written sink.old) (K.written sink.new) (answers_from session.old.state (less_empty_end (buffer.now.bytes ∷ [])))) }
+    ensures begun { AppendsPrefix (K.written sink.old) (K.written sink.new) (answers_from session.old.state (less_empty_end (buffer.now.bytes ∷ []))) }
+    ensures stops { IsWriteStopOf result }
+    ensures cause { IsErrOf result Stop.WriteFault → Rose (K.faults sink.old) (K.faults sink.new) }
+    ensures whole { IsErrOf result Stop.OutOfMemory ⊎ (session.new.failed ≡ false) }
+{
+    if buffer.len() == 0 {
+        return Ok(());
+    }
+    answer_line(
+        rt,
+        alloc,
+        gate,
+        session,
+        buffer.front(buffer.len()),
+        gathered,
+    )?;
+    send(sink, gathered)
+}
+
+/// Reads one byte more than an input may have.
+fn read_one<S: Source>(source: &mut S) -> Result<Option<u8>, Stop>
+    ensures read { IfOk result (Probed (S.left source.old) (S.left source.new)) }
+    ensures kept { OnErr result (Keeps (S.left source.old) (S.left source.new)) }
+    ensures stops { IsReadStopOf result }
+    ensures cause { OnErr result (Rose (S.faults source.old) (S.faults source.new)) }
+    ensures later { S.faults source.old ≤ S.faults source.new }
+{
+    let mut byte = [0u8; 1];
+    match source.read(&mut byte) {
+        Ok(0) => Ok(None),
+        Ok(_) => Ok(Some(byte[0])),
+        Err(Failed) => Err(Stop::ReadFault),
+    }
+}
+
+/// Which limit the byte passes that comes after `INPUT_LIMIT` bytes, behind `pending` bytes of a line.
+fn limit_passed(pending: usize, byte: u8) -> Stop
+    ensures { result ≡ limit_stop pending byte }
+{
+    if pending == LINE_LIMIT && byte != b'\n' {
+        Stop::LineTooLong
+    } else {
+        Stop::InputTooLong
+    }
+}
