@@ -1,0 +1,69 @@
+#!/usr/bin/env python3
+"""Writes the inputs of the bench into a folder: usage: make_inputs.py FOLDER"""
+import json
+import random
+import sys
+
+PIECES = [
+    "let total = total + item_value;\n",
+    "// résumé of the open accounts\n",
+    "fn area(w: u64, h: u64) -> u64\n",
+    "// naïve, then faster: 日本語\n",
+    "// done 😀 and checked twice\n",
+]
+LINE_LIMIT = 4_194_304
+
+
+def line(value):
+    return json.dumps(value, ensure_ascii=False, separators=(",", ":"))
+
+
+def small_loads(bytes_wanted):
+    """Short loads over 200 names, to `bytes_wanted` bytes in all."""
+    lines, size, k = [], 0, 0
+    while True:
+        text = line({"load": f"name{k % 200}", "text": PIECES[k % len(PIECES)] * (1 + k % 3)})
+        size += len(text.encode()) + 1
+        if size > bytes_wanted:
+            return "\n".join(lines) + "\n"
+        lines.append(text)
+        k += 1
+
+
+def mixed_text(bytes_wanted):
+    parts, size, k = [], 0, 0
+    while size < bytes_wanted:
+        parts.append(PIECES[k % len(PIECES)])
+        size += len(parts[-1].encode())
+        k += 1
+    return "".join(parts)
+
+
+def one_load():
+    """One line just below the limit of a line."""
+    text = mixed_text(3_700_000)
+    value = line({"load": "big", "text": text})
+    assert len(value.encode()) <= LINE_LIMIT
+    return value + "\n"
+
+
+def questions():
+    """A text of 60 KB, then 200 lines of 1,000 places by UTF-16 offset."""
+    text = mixed_text(60_000)
+    units = len(text.encode("utf-16-le")) // 2
+    draw = random.Random(1)
+    lines = [line({"load": "doc", "text": text})]
+    for _ in range(200):
+        lines.append(line({"on": "doc", "do": [{"at": draw.randrange(units)} for _ in range(1000)]}))
+    return "\n".join(lines) + "\n"
+
+
+folder = sys.argv[1]
+for name, text in (
+    ("small_loads", small_loads(4_000_000)),
+    ("one_load", one_load()),
+    ("questions", questions()),
+    ("small_loads_twice", small_loads(8_000_000)),
+):
+    with open(f"{folder}/{name}.jsonl", "w", encoding="utf-8") as out:
+        out.write(text)
