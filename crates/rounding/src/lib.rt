@@ -10,6 +10,8 @@
 mod floors;
 mod place;
 mod resolution;
+#[cfg(test)]
+mod tests;
 mod walk;
 
 pub use floors::{scalar_floor, utf8_floor, utf16_floor};

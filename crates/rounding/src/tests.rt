@@ -1,0 +1,196 @@
+//! What no clause says: what the calls answer at texts written out by hand, over storage of either encoding.
+ghost use Rattle.std.specs.Prelude.{◌≡◌, ◌+◌, ◌*◌, ◌<◌, ◌≤◌, IfOk, length};
+ghost use Rattle.text_spec.specs.Packed.{byte_of, bytes_of};
+
+use crate::{resolve, scalar_floor, utf8_floor, utf16_floor};
+use index_words::Index;
+use std::alloc::Global;
+use std::marker::Brand;
+use std::process::Abort;
+use std::sync::ledger::{Blank, Ledger};
+use text_spec::{Encoding, OutOfMemory};
+use word_units::{OutOfBounds, Steps, VecText};
+
+/// Byte `p` of words.
+fn held_byte(words: &[u64], p: u64) -> u8
+    requires { p < 8 * length words.now }
+    ensures { result ≡ byte_of words.now p }
+{
+    let word = words[(p / 8) as usize];
+    ((word >> (8 * (p % 8))) % 256) as u8
+}
+
+/// The first `count` bytes of words.
+fn held_bytes(alloc: Global, words: &[u64], count: u64) -> Result<Vec<u8>, OutOfMemory>
+    requires { count ≤ 8 * length words.now }
+    ensures { IfOk result (λ bytes. bytes.items ≡ bytes_of words.now count) }
+{
+    let mut bytes = Vec::new(alloc);
+    for p in 0..count {
+        bytes.push(held_byte(words, p))?;
+    }
+    Ok(bytes)
+}
+
+/// The text of packed bytes, where they are UTF-8.
+fn text8(alloc: Global, words: Vec<u64>, count: u64) -> Result<Option<VecText>, OutOfMemory> {
+    if count >= 1_000_000 || count > 8 * words.len() as u64 {
+        return Ok(None);
+    }
+    let bytes = held_bytes(alloc, words.as_slice(), count)?;
+    match std::str::from_utf8(bytes.as_slice()) {
+        Ok(_) => Ok(Some(VecText::new(words, Encoding::Utf8, count))),
+        Err(_) => Ok(None),
+    }
+}
+
+/// The text of packed 16-bit units.
+fn text16(words: Vec<u64>, count: u64) -> Option<VecText> {
+    if count >= 1_000_000 || count > 4 * words.len() as u64 {
+        return None;
+    }
+    Some(VecText::new(words, Encoding::Utf16, count))
+}
+
+/// The words of an index once it is resolved, and of its floors: scalars, UTF-16, UTF-8.
+type Answer = Result<(u64, u64, u64, u64), OutOfBounds>;
+
+fn answer_with<L: Ledger>(t: &mut VecText, i: Index, blank: Blank) -> Answer
+    requires name { blank.name ≡ L.name }
+    requires parts { blank.parts ≡ L.parts }
+    requires one { blank.parts ≡ 1 }
+{
+    let mut steps = Steps::<L>::from_blank(blank);
+    let found = resolve(t, i, &mut steps)?;
+    let scalar = scalar_floor(t, found, &mut steps);
+    let utf16 = utf16_floor(t, found, &mut steps);
+    let utf8 = utf8_floor(t, found, &mut steps);
+    Ok((found.bits(), scalar.bits(), utf16.bits(), utf8.bits()))
+}
+
+fn answer(t: &mut VecText, i: Index) -> Answer {
+    answer_with::<Brand>(t, i, Blank::new(1))
+}
+
+/// What is asked of an index word, and answered.
+type Row = (u64, Answer);
+
+fn rows_are(rt: &impl Abort, t: &mut VecText, rows: &[Row], text: &str) {
+    for (word, wanted) in rows {
+        match Index::check(*word) {
+            Some(index) => assert_eq!(rt; answer(t, index), *wanted, "{text}: {word}"),
+            None => assert!(rt; false, "{word} is no index"),
+        }
+    }
+}
+
+fn out_of(position: u64, low: u64, high: u64) -> Answer {
+    Err(OutOfBounds {
+        position,
+        low,
+        high,
+    })
+}
+
+fn utf8_rows_are(
+    rt: &impl Abort,
+    alloc: Global,
+    text: &str,
+    word: u64,
+    rows: &[Row],
+) -> Result<(), OutOfMemory> {
+    let words = Vec::from_slice(alloc, &[word])?;
+    let mut t = text8(alloc, words, text.len() as u64)?.expect(rt, "{text:?} is UTF-8");
+    rows_are(rt, &mut t, rows, text);
+    Ok(())
+}
+
+#[test]
+fn indices_are_rounded_in_utf8_storage(rt: HostRuntime) -> Result<(), OutOfMemory> {
+    let alloc = rt.alloc();
+    utf8_rows_are(
+        &rt,
+        alloc,
+        "abc",
+        0x63_6261,
+        &[
+            (4, Ok((4, 5, 5, 5))),
+            (196612, Ok((196612, 196613, 196613, 196613))),
+            (262148, out_of(4, 0, 3)),
+            (262152, out_of(4, 0, 3)),
+        ],
+    )?;
+    utf8_rows_are(
+        &rt,
+        alloc,
+        "é",
+        0xA9C3,
+        &[
+            (65544, Ok((131077, 131077, 131077, 131077))),
+            (65540, Ok((65540, 5, 5, 65540))),
+            (16388, Ok((16388, 5, 5, 5))),
+            (131080, out_of(2, 0, 1)),
+        ],
+    )?;
+    utf8_rows_are(
+        &rt,
+        alloc,
+        "é😀",
+        0x8098_9FF0_A9C3,
+        &[
+            (131072, Ok((131076, 131077, 131077, 131077))),
+            (131084, Ok((131076, 131077, 131077, 131077))),
+            (131080, Ok((147460, 131077, 147460, 131077))),
+            (180228, Ok((180228, 131077, 131077, 131077))),
+            (262148, Ok((262148, 131077, 131077, 262148))),
+            (409604, Ok((409604, 393221, 393221, 393221))),
+            (196616, Ok((393221, 393221, 393221, 393221))),
+            (458756, out_of(7, 0, 6)),
+        ],
+    )?;
+    utf8_rows_are(
+        &rt,
+        alloc,
+        "",
+        0,
+        &[
+            (4, Ok((4, 5, 5, 5))),
+            (8, Ok((5, 5, 5, 5))),
+            (65536, out_of(1, 0, 0)),
+        ],
+    )
+}
+
+#[test]
+fn indices_are_rounded_in_utf16_storage(rt: HostRuntime) -> Result<(), OutOfMemory> {
+    let words = Vec::from_slice(rt.alloc(), &[0xDE00_D83D])?;
+    let mut pair = text16(words, 2).expect(&rt, "two units");
+    rows_are(
+        &rt,
+        &mut pair,
+        &[
+            (16392, Ok((16392, 9, 9, 16392))),
+            (65544, Ok((65544, 9, 65544, 9))),
+            (196612, Ok((49160, 9, 9, 49160))),
+            (262148, Ok((131081, 131081, 131081, 131081))),
+            (327684, out_of(5, 0, 4)),
+            (196616, out_of(3, 0, 2)),
+        ],
+        "a pair",
+    );
+    let words = Vec::from_slice(rt.alloc(), &[0xDC00_0041_D800])?;
+    let mut lone = text16(words, 3).expect(&rt, "three units");
+    rows_are(
+        &rt,
+        &mut lone,
+        &[
+            (32776, Ok((32776, 9, 9, 32776))),
+            (49160, Ok((49160, 9, 9, 9))),
+            (196612, Ok((65545, 65545, 65545, 65545))),
+            (458756, Ok((196617, 196617, 196617, 196617))),
+            (524292, out_of(8, 0, 7)),
+        ],
+        "lone halves",
+    );
+    Ok(())
+}

@@ -1,0 +1,51 @@
+#!/usr/bin/env bash
+# Refuses each allocation of the built program in turn: a run ends with status 5 and a first part of the right replies, or
+# with status 0 and all of them. Needs cc. The allocator is wrapped by a small library that is made on the way.
+set -euo pipefail
+top=$(cd "$(dirname "$0")/.." && pwd)
+"$top/scripts/strq" </dev/null
+work=$(mktemp -d)
+trap 'rm -rf "$work"' EXIT
+
+cat >"$work/refuse.c" <<'C'
+#define _GNU_SOURCE
+#include <dlfcn.h>
+#include <errno.h>
+#include <stdlib.h>
+static long calls;
+static int refused(void) { const char *n = getenv("REFUSED_CALL"); return n && ++calls == atol(n) ? (errno = ENOMEM) : 0; }
+static void *real(const char *name) { return dlsym(RTLD_NEXT, name); }
+void *malloc(size_t size) { return refused() ? NULL : ((void *(*)(size_t))real("malloc"))(size); }
+void *realloc(void *old, size_t size) { return refused() ? NULL : ((void *(*)(void *, size_t))real("realloc"))(old, size); }
+__attribute__((destructor)) static void end(void) { const char *n = getenv("REFUSED_CALL"); if (n && calls < atol(n)) _exit(99); }
+C
+sed -i '1a #include <unistd.h>' "$work/refuse.c"
+cc -shared -fPIC -O1 -o "$work/refuse.so" "$work/refuse.c" -ldl
+
+cat >"$work/input" <<'LINES'
+{"load":"a","text":"abc"}
+{"on":"a","do":[{"at":0},{"slice":[0,2]},{"text":true},{"at":9}]}
+{"load":"g","text":"😀é"}
+{"on":"g","do":[{"at":1},{"slice":[0,3]}]}
+{"on":"zz","do":[]}
+{"load":"a","text":"\u00e9"}
+{"drop":"a"}
+[
+LINES
+"$top/crates/strq/out/strq" <"$work/input" >"$work/want"
+
+call=0
+while true; do
+  call=$((call + 1))
+  status=0
+  LD_PRELOAD="$work/refuse.so" REFUSED_CALL=$call "$top/crates/strq/out/strq" <"$work/input" >"$work/got" 2>"$work/err" || status=$?
+  [ "$status" = 99 ] && break
+  if [ "$status" = 5 ]; then
+    cmp -s -n "$(stat -c %s "$work/got")" "$work/got" "$work/want" && continue
+  elif [ "$status" = 0 ]; then
+    cmp -s "$work/got" "$work/want" && continue
+  fi
+  echo "allocation $call refused: status $status and other replies" >&2
+  exit 1
+done
+echo "each of $((call - 1)) allocations was refused in turn: status 5 with a first part of the replies, or all of them"
