@@ -2,3 +2,4 @@ pub mod Owned
 pub mod Telling
 pub mod Backing
 pub mod Passing
+pub mod FillingLemmas

@@ -8,6 +8,7 @@
 #![tactic(auto)]
 
 mod bounds;
+mod fill;
 mod floor;
 mod packing;
 mod reading;
@@ -18,6 +19,7 @@ mod vec_text;
 mod walk;
 
 pub use bounds::OutOfBounds;
+pub use fill::{fill_backward, fill_forward};
 pub use floor::boundary_at_or_before;
 pub use reading::{byte_at, unit_at};
 pub use scalar::scalar_at;
