@@ -109,3 +109,11 @@ pub pairs-utf8 : (t : List ℕ) → length t + count_by starts_pair (utf8 t) ≡
 pairs-utf8 [] = refl
 pairs-utf8 (c ∷ t) =
     omega (arith, sum_by-append (λ y. cond (starts_pair y) 1 0) (encode_utf8 c) (utf8 t), pairs-encode c, pairs-utf8 t, length-append (encode_utf16 c) (utf16 t), length-encode_utf16 c)
+
+-- so what is counted in the bytes of a text is its lengths
+pub scalars-counted : (t bytes : List ℕ) (n : ℕ) → utf8 t ≡ bytes → n ≡ count_by starts_scalar bytes → n ≡ length t
+scalars-counted t bytes n same counted = counted ∙ ap (count_by starts_scalar) (sym same) ∙ starts-utf8 t
+
+pub units-counted : (t bytes : List ℕ) (n : ℕ) → utf8 t ≡ bytes → n ≡ count_by starts_scalar bytes + count_by starts_pair bytes → n ≡ length (utf16 t)
+units-counted t bytes n same counted =
+    omega (arith, counted, ap (count_by starts_scalar) same, ap (count_by starts_pair) same, starts-utf8 t, pairs-utf8 t)

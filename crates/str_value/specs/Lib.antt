@@ -1,3 +1,4 @@
 pub mod Meaning
+pub mod Stored
 pub mod Room
 pub mod Leading

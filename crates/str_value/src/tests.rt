@@ -1,5 +1,6 @@
 //! What no clause says: that values are made where memory is ample, and what the calls answer at texts written out by hand.
-use crate::{MakeError, Pass, Str};
+use crate::{MAX_TEXT_BYTES, MakeError, Pass, Str};
+use object_words::Form;
 use std::process::Abort;
 use text_spec::OutOfMemory;
 
@@ -30,6 +31,48 @@ fn values_have_the_lengths_of_their_texts(rt: HostRuntime) -> Result<(), MakeErr
     for (text, wanted) in rows {
         let value = Str::from_utf8(rt.alloc(), &mut pass, text.as_bytes())?;
         lengths_are(&rt, &value, wanted, text);
+        value.release(&mut pass);
+    }
+    Ok(())
+}
+
+/// The form and the two words of a value.
+fn stands_in<A: Abort>(rt: &A, value: &Str, form: Form, words: (u64, u64), row: &str) {
+    let object = value.object();
+    assert_eq!(rt; value.form(), form, "{row}");
+    assert_eq!(rt; (object.w0(), object.w1()), words, "{row}");
+}
+
+#[test]
+fn at_most_fifteen_bytes_stand_in_the_words(rt: HostRuntime) -> Result<(), MakeError> {
+    let mut pass = Pass::none();
+    let rows = [
+        ("", Form::Small, (0, 0xE000_0000_0000_0000)),
+        ("abc", Form::Small, (0x0063_6261, 0xE300_0000_0000_0000)),
+        (
+            "aaaaaaaaaaaaaaa",
+            Form::Small,
+            (0x6161_6161_6161_6161, 0xEF61_6161_6161_6161),
+        ),
+        (
+            "aaaaaaaaaaaaaé",
+            Form::Small,
+            (0x6161_6161_6161_6161, 0xAFA9_C361_6161_6161),
+        ),
+        (
+            "aaaaaaaaaaaaaaaa",
+            Form::Owned,
+            (0xC000_0000_0000_0010, 0x2000_0000_0000_0000),
+        ),
+        (
+            "aaaaaaaaaaaaaaé",
+            Form::Owned,
+            (0x0000_0000_0000_0010, 0x2000_0000_0000_0000),
+        ),
+    ];
+    for (text, form, words) in rows {
+        let value = Str::from_utf8(rt.alloc(), &mut pass, text.as_bytes())?;
+        stands_in(&rt, &value, form, words, text);
         value.release(&mut pass);
     }
     Ok(())
@@ -66,6 +109,7 @@ fn bytes_that_are_no_text_are_refused_with_their_valid_length(rt: HostRuntime) {
 #[test]
 fn a_text_of_sixteen_megabytes_is_the_longest(rt: HostRuntime) -> Result<(), MakeError> {
     let mut pass = Pass::none();
+    assert_eq!(rt; MAX_TEXT_BYTES, 16_777_216);
     let mut bytes = vec![in rt.alloc(); b'a'; 16_777_217]?;
     match Str::from_utf8(rt.alloc(), &mut pass, bytes.as_slice()) {
         Err(fault) => assert_eq!(rt; fault, MakeError::TooLong { len: 16_777_217 }),
@@ -81,6 +125,16 @@ fn a_text_of_sixteen_megabytes_is_the_longest(rt: HostRuntime) -> Result<(), Mak
         &value,
         (16_777_216, 16_777_216, 16_777_216),
         "the longest text",
+    );
+    value.release(&mut pass);
+    bytes.truncate(65_529);
+    let value = Str::from_utf8(rt.alloc(), &mut pass, bytes.as_slice())?;
+    stands_in(
+        &rt,
+        &value,
+        Form::Owned,
+        (0xC000_0000_0000_FFF9, 0x2000_0000_0000_0000),
+        "65,529 bytes",
     );
     value.release(&mut pass);
     Ok(())

@@ -1,20 +1,30 @@
-use Rattle.std.proofs.Common.{sym, ap, ◌∙◌, length, count_by, arith}
-use Rattle.str_value.specs.Leading.{starts_scalar, starts_pair}
-use Rattle.str_value.proofs.Counting.{starts-utf8, pairs-utf8}
-use Rattle.str_value.proofs.Kept.{utf8-kept}
+use Rattle.std.proofs.Common.{◌≡◌, sym, ap, ◌∙◌, length, take}
+use Rattle.text_spec.specs.Text.{utf8}
+use Rattle.str_value.specs.Stored.{held}
+use Rattle.str_value.proofs.Counting.{scalars-counted, units-counted}
+use Rattle.str_value.proofs.Kept.{words-kept, bytes-kept}
 use Rattle.str_value.proofs.value.Str.lengths.Goals as goal
 
-pub returns-clause-scalars : goal.returns-clause-scalars
-returns-clause-scalars c =
-    let kept = c.as_slice.ensures.value ∙ sym (utf8-kept c.self.inside.bytes.items c.args.self.now c.self.invariant.0 c.self.view_is) in
-    c.lengths_of.ensures.scalars ∙ ap (count_by starts_scalar) kept ∙ starts-utf8 c.args.self.now.text
+front : (c : goal.After-lengths_of) → utf8 c.args.self.now.text ≡ take c.count.result c.object_bytes-block.result
+front c = words-kept _ _ c.args.self.now _ _ c.self.invariant c.self.view_is c.in-Words.is c.count.ensures c.object_bytes-block.ensures
 
-pub returns-clause-utf16 : goal.returns-clause-utf16
-returns-clause-utf16 c =
-    let kept = c.as_slice.ensures.value ∙ sym (utf8-kept c.self.inside.bytes.items c.args.self.now c.self.invariant.0 c.self.view_is) in
-    omega (arith, c.lengths_of.ensures.utf16, ap (count_by starts_scalar) kept, ap (count_by starts_pair) kept, starts-utf8 c.args.self.now.text, pairs-utf8 c.args.self.now.text)
+all : (c : goal.After-lengths_of-in-Bytes) → utf8 c.args.self.now.text ≡ c.as_slice-bytes.result.now
+all c = bytes-kept _ _ c.args.self.now _ c.self.invariant c.self.view_is (ap (held _) c.in-Bytes.is ∙ sym c.as_slice-bytes.ensures.value)
 
-pub returns-clause-utf8 : goal.returns-clause-utf8
-returns-clause-utf8 c =
-    let kept = c.as_slice.ensures.value ∙ sym (utf8-kept c.self.inside.bytes.items c.args.self.now c.self.invariant.0 c.self.view_is) in
-    c.lengths_of.ensures.utf8 ∙ ap length kept
+pub returns-in-Words-clause-scalars : goal.returns-in-Words-clause-scalars
+returns-in-Words-clause-scalars c = scalars-counted c.args.self.now.text _ _ (front c) c.lengths_of.ensures.scalars
+
+pub returns-in-Words-clause-utf16 : goal.returns-in-Words-clause-utf16
+returns-in-Words-clause-utf16 c = units-counted c.args.self.now.text _ _ (front c) c.lengths_of.ensures.utf16
+
+pub returns-in-Words-clause-utf8 : goal.returns-in-Words-clause-utf8
+returns-in-Words-clause-utf8 c = c.lengths_of.ensures.utf8 ∙ ap length (sym (front c))
+
+pub returns-in-Bytes-clause-scalars : goal.returns-in-Bytes-clause-scalars
+returns-in-Bytes-clause-scalars c = scalars-counted c.args.self.now.text _ _ (all c) c.lengths_of-in-Bytes.ensures.scalars
+
+pub returns-in-Bytes-clause-utf16 : goal.returns-in-Bytes-clause-utf16
+returns-in-Bytes-clause-utf16 c = units-counted c.args.self.now.text _ _ (all c) c.lengths_of-in-Bytes.ensures.utf16
+
+pub returns-in-Bytes-clause-utf8 : goal.returns-in-Bytes-clause-utf8
+returns-in-Bytes-clause-utf8 c = c.lengths_of-in-Bytes.ensures.utf8 ∙ ap length (sym (all c))
