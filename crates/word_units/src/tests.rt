@@ -329,7 +329,7 @@ fn check_surface<L: Ledger>(rt: &impl Abort, t: &mut VecText, blank: Blank)
     requires one { blank.parts ≡ 1 }
 {
     let mut steps = Steps::<L>::from_blank(blank);
-    assert_eq!(rt; VecText::STRIDE, 64);
+    assert_eq!(rt; t.stride(), 64);
     assert_eq!(rt; t.low(), 0);
     assert_eq!(rt; t.high(), t.count());
     assert!(rt; !t.ascii());

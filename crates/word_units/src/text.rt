@@ -39,7 +39,8 @@ pub trait Text {
     ghost STRIDE: { ℕ };
 
     /// The distance of this type's breadcrumbs, in UTF-16 units.
-    const STRIDE: usize;
+    fn stride(&self) -> usize
+        ensures { result ≡ STRIDE };
 
     /// The encoding of the storage.
     fn encoding(&self) -> Encoding

@@ -65,7 +65,9 @@ impl Text for VecText {
 
     ghost STRIDE = { 64 };
 
-    const STRIDE: usize = 64;
+    fn stride(&self) -> usize {
+        64
+    }
 
     fn encoding(&self) -> Encoding {
         self.encoding
