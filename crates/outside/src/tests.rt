@@ -47,7 +47,7 @@ fn readers_and_writers_of_std_serve(rt: HostRuntime) -> Result<(), OutOfMemory> 
     assert_eq!(rt; buf, [b'a', b'b']);
     assert_eq!(rt; source.read(&mut buf), Ok(1));
     assert_eq!(rt; source.read(&mut buf), Ok(0));
-    let mut sink = IoSink::new(Vec::<u8>::new(rt.alloc()));
+    let mut sink = IoSink::new(Vec::<u8>::with_capacity(rt.alloc(), 3)?);
     assert_eq!(rt; sink.write(b"abc"), Ok(3));
     OpenGate.pass(0);
     Ok(())

@@ -2,7 +2,7 @@
 ghost use Rattle.std.specs.Prelude.{◌<◌};
 
 use crate::run;
-use outside::{MemSink, MemSource, OpenGate};
+use outside::{Failed, MemSink, MemSource, OpenGate, Sink};
 use std::alloc::Global;
 use std::thread::Threads;
 use text_spec::{OutOfMemory, TextList};
@@ -37,6 +37,24 @@ fn run_over<R: Threads + Sync>(
     let mut written = Vec::new(alloc);
     written.extend_from_slice(sink.bytes())?;
     Ok(Run { status, written })
+}
+
+/// A sink that takes one byte of each write, however many it is given.
+#[derive(Drop)]
+struct ByteSink {
+    bytes: MemSink,
+}
+
+impl Sink for ByteSink {
+    ghost use Rattle.std.specs.Prelude.{Some};
+
+    ghost written = { λ s. Some s.bytes.written };
+
+    ghost faults = { λ s. s.bytes.faults };
+
+    fn write(&mut self, buf: &[u8]) -> Result<usize, Failed> {
+        self.bytes.write(&buf[..1])
+    }
 }
 
 const SYNTAX: &[u8] = b"{\"error\":\"syntax\"}\n";
@@ -140,6 +158,32 @@ fn a_failing_call_leaves_the_replies_before_it(rt: HostRuntime) -> Result<(), Ou
         let got = run_over(&rt, rt.alloc(), input, 30, room, (0, 0))?;
         assert_eq!(rt; got.status, 4, "room {room}");
         assert_eq!(rt; got.written.as_slice(), &replies[..room], "room {room}");
+    }
+    Ok(())
+}
+
+#[test]
+fn a_sink_may_take_a_byte_a_call(rt: HostRuntime) -> Result<(), OutOfMemory> {
+    let alloc = rt.alloc();
+    let input = b"{\"load\":\"a\",\"text\":\"x\"}\n{\"load\":";
+    let replies = b"{\"scalars\":1,\"utf16\":1,\"utf8\":1}\n{\"error\":\"syntax\"}\n";
+    // Call `failing` of the sink fails; the last number is past the last call.
+    for failing in 1..replies.len() + 2 {
+        let mut bytes = Vec::new(alloc);
+        bytes.extend_from_slice(input)?;
+        let mut source = MemSource::new(bytes, 1000, vec![in alloc; 0]?);
+        let mut sink = ByteSink {
+            bytes: MemSink::new(alloc, 1000, vec![in alloc; failing as u64]?)?,
+        };
+        let words = TextList::new(alloc);
+        let status = run(&rt, alloc, &words, &mut source, &mut sink, &OpenGate).status;
+        let want = if failing <= replies.len() { 4 } else { 0 };
+        assert_eq!(rt; status, want, "write {failing} fails");
+        assert_eq!(rt;
+            sink.bytes.bytes(),
+            &replies[..failing - 1],
+            "write {failing} fails"
+        );
     }
     Ok(())
 }
