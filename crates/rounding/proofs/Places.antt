@@ -1,6 +1,6 @@
 -- Places that are in range or out of it, and the index of a place.
-use Rattle.std.proofs.Common.{◌≡◌, refl, sym, ap, subst, ◌∙◌, ℕ, zero, suc, ◌+◌, ◌-◌, ◌*◌, ◌/◌, ◌%◌, ◌^◌, ◌<◌, ◌≤◌, ◌==◌, ◌&&◌, ⊎_elim, Bool, true, false, nat_le, nat_lt, List, length, get_or, Some, None, arith, if◌then◌else◌}
-use Rattle.std.proofs.lemmas.Bool.{cases_lt, le-leb, lt-leb, lt-ltb, le-ltb, eqb-true, eqb-false}
+use Rattle.std.proofs.Common.{◌≡◌, refl, sym, ap, ◌∙◌, ℕ, suc, ◌+◌, ◌-◌, ◌*◌, ◌/◌, ◌%◌, ◌^◌, ◌<◌, ◌≤◌, ◌==◌, ◌&&◌, Bool, true, false, nat_le, nat_lt, List, length, get_or, Some, None, arith, if◌then◌else◌}
+use Rattle.std.proofs.lemmas.Bool.{le-leb, lt-leb, lt-ltb, le-ltb, eqb-true, eqb-false}
 use Rattle.text_spec.specs.declared.encoding.Encoding.{Encoding}
 use Rattle.text_spec.specs.declared.encoding.Encoding.TheVariants.{Utf8, Utf16}
 use Rattle.text_spec.specs.Offsets.{start, down}
@@ -104,7 +104,7 @@ own_high e b first end low high i bounds above =
     ∙ ap (λ told. if told then Some (index_place i) else None) (and-false (nat_le (start (width_in e) b first) (position_of i)))
 
 -- an index that is read as an offset in the other encoding
-other_in : (e : Encoding) (b : List ℕ) (first end q : ℕ) → start (other_width e) b first ≤ q → q ≤ start (other_width e) b end
+pub other_in : (e : Encoding) (b : List ℕ) (first end q : ℕ) → start (other_width e) b first ≤ q → q ≤ start (other_width e) b end
     → other_place e b first end q ≡ Some (across (width_in e) (other_width e) b q)
 other_in e b first end q above below =
     let found = Some (across (width_in e) (other_width e) b q) in

@@ -1,9 +1,9 @@
 -- What one scalar more does to a walk.
-use Rattle.std.proofs.Common.{◌≡◌, sym, ap, ◌∙◌, ℕ, zero, suc, ◌+◌, ◌*◌, ◌<◌, ◌≤◌, ◌^◌, ⊎_elim, List, [], ◌∷◌, length, arith}
+use Rattle.std.proofs.Common.{◌≡◌, ℕ, zero, suc, ◌+◌, ◌*◌, ◌<◌, ◌≤◌, ⊎_elim, List, [], ◌∷◌, arith}
 use Rattle.std.proofs.lemmas.Bool.{cases_lt}
 use Rattle.text_spec.specs.declared.encoding.Encoding.{Encoding}
 use Rattle.text_spec.specs.Offsets.{start, down}
-use Rattle.text_spec.specs.Views.{width_in, other_width, size_in}
+use Rattle.text_spec.specs.Views.{width_in, other_width}
 use Rattle.text_spec.proofs.Walk.{start-mono}
 use Rattle.text_spec.proofs.Widths.{width_some, other_most}
 use Rattle.word_units.specs.Walking.{Passes}

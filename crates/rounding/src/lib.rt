@@ -15,4 +15,5 @@ mod tests;
 mod walk;
 
 pub use floors::{scalar_floor, utf8_floor, utf16_floor};
+pub use place::{bounds, index_from};
 pub use resolution::resolve;

@@ -53,6 +53,41 @@ fn resolve_own<T: Text>(t: &T, i: Index) -> Result<Index, OutOfBounds>
     Ok(Index::new(position, i.transcoded(), t.encoding()))
 }
 
+/// The index of an offset in the encoding that isn't the storage's, in a text marked ASCII: it is the position in the storage's.
+fn resolve_ascii<T: Text>(t: &T, offset: u64) -> Result<Index, OutOfBounds>
+    requires { T.marked_ascii t.now ≡ true }
+    ensures found { IfOk result (λ index. resolving.other_place (T.storage t.now) (T.whole t.now) (T.first t.now) (T.end t.now) offset
+        ≡ Some (resolving.index_place index)) }
+    ensures word { IfOk result (λ index. index ≡ resolving.index_known (T.storage t.now) (T.whole t.now) true (resolving.index_place index)) }
+    ensures refused { IfErr result (λ out. resolving.other_place (T.storage t.now) (T.whole t.now) (T.first t.now) (T.end t.now) offset ≡ None) }
+    ensures carries { IfErr result (λ out. out ≡ record {
+      position = offset;
+      low = start (other_width (T.storage t.now)) (T.whole t.now) (T.first t.now);
+      high = start (other_width (T.storage t.now)) (T.whole t.now) (T.end t.now);
+    }) }
+    ensures resolved { IfOk result (resolving.IsResolved (T.storage t.now) (T.whole t.now) (T.first t.now) (T.end t.now)) }
+{
+    let _ascii = t.ascii();
+    let _low = t.low();
+    let _high = t.high();
+    let (low, high) = bounds(t);
+    if offset < low {
+        return Err(OutOfBounds {
+            position: offset,
+            low,
+            high,
+        });
+    }
+    if high < offset {
+        return Err(OutOfBounds {
+            position: offset,
+            low,
+            high,
+        });
+    }
+    Ok(index_from(t.encoding(), offset, 0))
+}
+
 /// The index of an offset in the encoding that isn't the storage's.
 fn resolve_other<T: Text, L: Ledger>(
     t: &mut T,
@@ -71,9 +106,13 @@ fn resolve_other<T: Text, L: Ledger>(
     ensures resolved { IfOk result (resolving.IsResolved (T.storage t.old) (T.whole t.old) (T.first t.old) (T.end t.old)) }
     ensures kept { t.new ≡ t.old }
     ensures cost { steps.new ≤ steps.old + 2 * length (T.whole t.old) }
+    ensures unread { T.marked_ascii t.old ≡ true → steps.new ≡ steps.old }
 {
     let encoding = t.encoding();
     let (from, to) = bounds(t);
+    if t.ascii() {
+        return resolve_ascii(t, offset);
+    }
     let low = units_before(t, 0, 0, from, steps);
     if offset < low {
         let high = units_before(t, from, low, to, steps);
@@ -105,6 +144,7 @@ fn resolve_other<T: Text, L: Ledger>(
 ///
 /// Refused exactly where the position lies before the text or behind its end, with the three numbers in the unit that the
 /// index is read in. An index read in code units of the storage reads no word, another at most two for each scalar of the storage.
+/// Where the text is marked ASCII no word is read.
 pub fn resolve<T: Text, L: Ledger>(
     t: &mut T,
     i: Index,
@@ -126,6 +166,7 @@ pub fn resolve<T: Text, L: Ledger>(
     ensures kept { t.new ≡ t.old }
     ensures cost { steps.new ≤ steps.old + 2 * length (T.whole t.old) }
     ensures free { resolving.reads_other (T.storage t.old) i ≡ false → steps.new ≡ steps.old }
+    ensures unread { T.marked_ascii t.old ≡ true → steps.new ≡ steps.old }
 {
     if reads_other(t.encoding(), i) {
         return resolve_other(t, i.position(), steps);

@@ -1,4 +1,4 @@
-use Rattle.std.proofs.Common.{◌≡◌, ◌<◌, ◌≤◌, ℕ, sym, subst, ap, ◌∙◌, true, get_or, arith}
+use Rattle.std.proofs.Common.{◌≡◌, ◌<◌, ℕ, sym, subst, ap, ◌∙◌, get_or, arith}
 use Rattle.text_spec.specs.Offsets.{start, down}
 use Rattle.text_spec.specs.Views.{width_in, other_width, size_in}
 use Rattle.index_words.specs.Fields.{position_of}

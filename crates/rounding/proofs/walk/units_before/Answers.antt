@@ -1,4 +1,4 @@
-use Rattle.std.proofs.Common.{◌≡◌, ℕ, ◌+◌, ◌*◌, ◌<◌, ◌≤◌, ◌^◌, rules, arith, sym, subst, ap, ◌∙◌}
+use Rattle.std.proofs.Common.{◌+◌, arith, subst, ◌∙◌}
 use Rattle.word_units.specs.Walking.{Passes}
 use Rattle.rounding.proofs.Stepping.{Stepped, stepped}
 use Rattle.rounding.proofs.walk.units_before.Given.{Over}

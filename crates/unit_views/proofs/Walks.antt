@@ -1,0 +1,190 @@
+-- What one scalar more, or less, does to a count of elements.
+use Rattle.std.proofs.Common.{◌≡◌, refl, sym, ap, subst, ◌∙◌, ℕ, suc, ◌+◌, ◌-◌, ◌^◌, ◌<◌, ◌≤◌, inl, inr, ⊎_elim, ◌⊎◌, List, length, get_or, false, arith}
+use Rattle.std.proofs.lemmas.Bool.{cases_lt}
+use Rattle.text_spec.specs.declared.encoding.Encoding.{Encoding}
+use Rattle.text_spec.specs.Offsets.{start, down}
+use Rattle.text_spec.specs.Views.{width_in, size_in}
+use Rattle.text_spec.proofs.Downward.{down-length}
+use Rattle.text_spec.proofs.Walk.{start-suc, start-le, start-strict, down-next}
+use Rattle.text_spec.proofs.Widths.{width_some}
+use Rattle.word_units.specs.Walking.{Passes}
+use Rattle.rounding.proofs.Ascii.{start-ascii, down-ascii, width_one}
+use Rattle.unit_views.specs.declared.view.View.{View}
+use Rattle.unit_views.specs.declared.view.View.TheVariants.{Scalars, Units}
+use Rattle.unit_views.specs.Elements.{is_own, view_width}
+use Rattle.unit_views.specs.Spots.{Passing, Backing, Walked, WalkedBack}
+use Rattle.unit_views.proofs.Between.{down-mono, next_within, Previous, previous, previous_within}
+use Rattle.unit_views.proofs.Widths.{other_is, view_some, start-most}
+
+-- one scalar passed
+pub passing : (view : View) (e : Encoding) (b : List ℕ) (at to room next more units : ℕ) → Passes e b at next more
+    → start (view_width view) b (suc (down (width_in e) b at)) ≡ start (view_width view) b (down (width_in e) b at) + units → 1 ≤ units
+    → start (width_in e) b (down (width_in e) b at) ≡ at → start (width_in e) b (down (width_in e) b to) ≡ to → at < to
+    → Passing (width_in e) (view_width view) b at to room next units
+passing view e b at to room next more units p counted some begins ends before =
+    record {
+      number = omega (arith, p.number);
+      boundary = p.boundary;
+      counted = ap (start (view_width view) b) {x = down (width_in e) b next} {y = suc (down (width_in e) b at)} (omega (arith, p.number)) ∙ counted;
+      ahead = p.ahead;
+      within = next_within e b at next more to p begins ends before;
+      some = some;
+      one = λ _. counted;
+    }
+
+pub one_scalar : (e : Encoding) (b : List ℕ) (at next more : ℕ) → Passes e b at next more
+    → start (view_width Scalars) b (suc (down (width_in e) b at)) ≡ start (view_width Scalars) b (down (width_in e) b at) + 1
+one_scalar e b at next more p = start-suc (view_width Scalars) b (down (width_in e) b at) p.inside
+
+pub its_units : (encoding e : Encoding) (b : List ℕ) (at next more : ℕ) → is_own (Units encoding) e ≡ false → Passes e b at next more
+    → start (width_in encoding) b (suc (down (width_in e) b at)) ≡ start (width_in encoding) b (down (width_in e) b at) + more
+its_units encoding e b at next more other p =
+    let same = other_is encoding e other in
+    let next_is : suc (down (width_in e) b at) ≡ down (width_in e) b next = omega (arith, p.number) in
+    ap (start (width_in encoding) b) next_is ∙ ap (λ f. start f b (down (width_in e) b next)) (sym same) ∙ p.other
+    ∙ ap (λ f. start f b (down (width_in e) b at) + more) same
+
+-- one scalar back
+pub backing : (view : View) (e : Encoding) (b : List ℕ) (at to q units : ℕ) → start (width_in e) b (down (width_in e) b at) ≡ at
+    → start (width_in e) b (down (width_in e) b to) ≡ to → to < at → Previous e b at q
+    → start (view_width view) b (suc (down (width_in e) b q)) ≡ start (view_width view) b (down (width_in e) b q) + units → 1 ≤ units → units ≤ 4
+    → Backing (width_in e) (view_width view) b at to q units
+backing view e b at to q units begins ends after p counted some few =
+    record {
+      number = p.number;
+      boundary = p.boundary;
+      counted = sym counted ∙ ap (start (view_width view) b) p.number;
+      before = p.before;
+      within = previous_within e b at q to p begins ends after;
+      some = some;
+      few = few;
+    }
+
+-- the same by the view that the call is given
+pub passing_scalars : (view : View) (e : Encoding) (b : List ℕ) (at to room next more : ℕ) → view ≡ Scalars → Passes e b at next more
+    → start (width_in e) b (down (width_in e) b at) ≡ at → start (width_in e) b (down (width_in e) b to) ≡ to → at < to
+    → Passing (width_in e) (view_width view) b at to room next 1
+passing_scalars view e b at to room next more is p begins ends before =
+    subst (λ v. Passing (width_in e) (view_width v) b at to room next 1) (sym is)
+    (passing Scalars e b at to room next more 1 p (one_scalar e b at next more p) (omega arith) begins ends before)
+
+pub passing_units : (view : View) (encoding e : Encoding) (b : List ℕ) (at to room next more : ℕ) → view ≡ Units encoding → is_own view e ≡ false → Passes e b at next more
+    → start (width_in e) b (down (width_in e) b at) ≡ at → start (width_in e) b (down (width_in e) b to) ≡ to → at < to
+    → Passing (width_in e) (view_width view) b at to room next more
+passing_units view encoding e b at to room next more is other p begins ends before =
+    subst (λ v. Passing (width_in e) (view_width v) b at to room next more) (sym is)
+    (passing (Units encoding) e b at to room next more more p (its_units encoding e b at next more (subst (λ v. is_own v e ≡ false) is other) p) p.some begins ends before)
+
+-- the boundary before another
+pub record Back (e : Encoding) (b : List ℕ) (at q : ℕ) : Type 0 where
+  pub previous_is : Previous e b at q
+  pub inside : q < size_in e b
+  pub boundary : start (width_in e) b (down (width_in e) b q) ≡ q
+  pub scalar : down (width_in e) b q < length b
+
+pub back : (e : Encoding) (b : List ℕ) (at to q : ℕ) → start (width_in e) b (down (width_in e) b at) ≡ at → to < at → at ≤ size_in e b
+    → q ≡ start (width_in e) b (down (width_in e) b (at - 1)) → Back e b at q
+back e b at to q begins after inside is =
+    let p = previous e b at q begins (omega (arith, after)) is in
+    record {
+      previous_is = p;
+      inside = omega (arith, p.before, inside);
+      boundary = p.boundary;
+      scalar = omega (arith, p.number, down-length (width_in e) b at);
+    }
+
+pub backing_scalars : (view : View) (e : Encoding) (b : List ℕ) (at to q : ℕ) → view ≡ Scalars → start (width_in e) b (down (width_in e) b at) ≡ at
+    → start (width_in e) b (down (width_in e) b to) ≡ to → to < at → Back e b at q → Backing (width_in e) (view_width view) b at to q 1
+backing_scalars view e b at to q is begins ends after p =
+    subst (λ v. Backing (width_in e) (view_width v) b at to q 1) (sym is)
+    (backing Scalars e b at to q 1 begins ends after p.previous_is (start-suc (view_width Scalars) b (down (width_in e) b q) p.scalar) (omega arith) (omega arith))
+
+pub backing_units : (view : View) (encoding e : Encoding) (b : List ℕ) (at to q next more : ℕ) → view ≡ Units encoding → is_own view e ≡ false
+    → start (width_in e) b (down (width_in e) b at) ≡ at → start (width_in e) b (down (width_in e) b to) ≡ to → to < at → Back e b at q → Passes e b q next more
+    → Backing (width_in e) (view_width view) b at to q more
+backing_units view encoding e b at to q next more is other begins ends after p passes =
+    subst (λ v. Backing (width_in e) (view_width v) b at to q more) (sym is)
+    (backing (Units encoding) e b at to q more begins ends after p.previous_is
+    (its_units encoding e b q next more (subst (λ v. is_own v e ≡ false) is other) passes) passes.some passes.few)
+
+-- ---- in a text of ASCII
+pub view_one : (view : View) (c : ℕ) → c < 0x80 → view_width view c ≡ 1
+view_one Scalars c h = refl
+view_one (Units encoding) c h = width_one encoding c h
+
+module _ (view : View) (e : Encoding) (b : List ℕ) (below : (k : ℕ) → k < length b → get_or b k 0 < 0x80) where
+  -- a place is its own number, and as many elements lie before it
+  pub own_number : (p : ℕ) → p ≤ size_in e b → (p ≤ length b) × ((down (width_in e) b p ≡ p) × ((start (width_in e) b p ≡ p) × (start (view_width view) b p ≡ p)))
+  own_number p h =
+      let size = start-ascii (width_in e) (width_some e) (width_one e) b below (length b) (omega arith) in
+      let inside : p ≤ length b = omega (arith, h, size) in (
+        inside,
+        (
+          down-ascii (width_in e) (width_some e) (width_one e) b below p inside,
+          (
+            start-ascii (width_in e) (width_some e) (width_one e) b below p inside,
+            start-ascii (view_width view) (view_some view) (view_one view) b below p inside,
+          ),
+        ),
+      )
+
+  pub ascii_starts : (p : ℕ) → p ≤ size_in e b → start (view_width view) b (down (width_in e) b p) ≡ p
+  ascii_starts p h = let is = own_number p h in ap (start (view_width view) b) is.1.0 ∙ is.1.1.1
+
+  pub ascii_begins : (p : ℕ) → p ≤ size_in e b → start (width_in e) b (down (width_in e) b p) ≡ p
+  ascii_begins p h = let is = own_number p h in ap (start (width_in e) b) is.1.0 ∙ is.1.1.0
+
+  pub walked_ascii : (from to room at : ℕ) → from ≤ at → at ≤ to → to ≤ size_in e b → at - from ≤ room → (at ≡ to) ⊎ (at ≡ from + room)
+      → Walked (width_in e) (view_width view) b from to room at (at - from)
+  walked_ascii from to room at after within inside few ends =
+      record {
+        boundary = ascii_begins at (omega (arith, within, inside));
+        after = after;
+        within = within;
+        counted = omega (arith, ascii_starts from (omega (arith, after, within, inside)), ascii_starts at (omega (arith, within, inside)), after);
+        fits = few;
+        last = ⊎_elim (λ l.
+            let here = own_number at (omega (arith, within, inside)) in
+            let next = own_number to inside in
+            let suc_at : start (view_width view) b (suc (down (width_in e) b at)) ≡ suc at =
+            ap (λ k. start (view_width view) b (suc k)) here.1.0 ∙ start-ascii (view_width view) (view_some view) (view_one view) b below (suc at) (omega (arith, l, next.0)) in
+            inr (l, omega (arith, suc_at, ascii_starts from (omega (arith, after, within, inside)), ⊎_elim (λ is. absurd (omega (arith, is, l))) (λ is. is) ends)))
+            (λ g. inl (omega (arith, within, g))) (cases_lt at to);
+      }
+
+  pub back_ascii : (from to room : ℕ) → to ≤ from → from ≤ size_in e b → room ≤ from - to
+      → WalkedBack (width_in e) (view_width view) b from to room (from - room) 0
+  back_ascii from to room order inside few =
+      record {
+        boundary = ascii_begins (from - room) (omega (arith, inside));
+        before = omega arith;
+        within = omega (arith, few, order);
+        counted = omega (arith, ascii_starts (from - room) (omega (arith, inside)), ascii_starts from inside, few, order);
+        inside = inl refl;
+      }
+
+-- ---- a walk on
+pub walked_end : (view : View) (e : Encoding) (b : List ℕ) (from to room at reached : ℕ) → Walked (width_in e) (view_width view) b from to room at reached
+    → to ≤ size_in e b → size_in e b < 2 ^ 48 → 2 ^ 50 ≤ room → at ≡ to
+walked_end view e b from to room at reached walked inside small large =
+    ⊎_elim (λ is. is) (λ h. absurd (let most = start-most view e b (suc (down (width_in e) b at)) in
+    omega (arith, h.1, most, start-le (width_in e) b (suc (down (width_in e) b at)), small, large))) walked.last
+
+-- how far it comes with one scalar more
+pub further : (view : View) (e : Encoding) (b : List ℕ) (at to room next units : ℕ) → Passing (width_in e) (view_width view) b at to room next units
+    → to ≤ size_in e b → down (width_in e) b at + 1 ≤ down (width_in e) b to
+further view e b at to room next units p inside = omega (arith, p.number, down-mono (width_in e) b next to p.within)
+
+-- where there is no room for more
+pub full : (view : View) (e : Encoding) (b : List ℕ) (from at to room reached : ℕ) → start (width_in e) b (down (width_in e) b at) ≡ at → at < to → to ≤ size_in e b
+    → start (view_width view) b (down (width_in e) b from) + reached ≡ start (view_width view) b (down (width_in e) b at) → reached ≡ room
+    → start (view_width view) b (down (width_in e) b from) + room < start (view_width view) b (suc (down (width_in e) b at))
+full view e b from at to room reached boundary before inside counted is =
+    let k = down (width_in e) b at in
+    let less : k < length b = (down-next (width_in e) b at (omega (arith, before, inside))).0 in
+    omega (arith, counted, is, start-strict (view_width view) (view_some view) b k (suc k) (omega arith) (omega (arith, less)))
+
+-- a walk back counts no more than four times the place
+pub back_most : (view : View) (e : Encoding) (b : List ℕ) (from : ℕ) → from ≤ size_in e b → size_in e b < 2 ^ 48 → start (view_width view) b (down (width_in e) b from) < 2 ^ 50
+back_most view e b from inside small =
+    omega (arith, start-most view e b (down (width_in e) b from), start-le (width_in e) b (down (width_in e) b from), small)

@@ -1,0 +1,148 @@
+//! A text as Unicode scalars (The Unicode Standard, section 3.9, D76).
+ghost use Rattle.std.specs.Prelude.{◌-◌, ◌≡◌, ◌*◌, ◌+◌, ◌<◌, ◌≤◌, true, false, IfOk, IfErr, length};
+ghost use Rattle.std.specs.Int.RustNames.{unsigned_abs};
+ghost use Rattle.rounding.specs.Resolving.{reads_other};
+ghost use Rattle.unit_views.specs.declared.view.View.TheVariants.{Scalars};
+ghost use Rattle.unit_views.specs.Elements.{element_count, element_index, IsElement, IsAfter, IsBefore, IsMoved, IsDistance, IsStopped, IsMoveOut, IsEitherOut};
+
+use crate::calls;
+use crate::spot::{leaving, spot_of};
+use crate::view::View;
+use index_words::Index;
+use rounding::bounds;
+use std::sync::ledger::Ledger;
+use word_units::{OutOfBounds, Steps, Text, scalar_at};
+
+/// The index of the first scalar, or of the end where there is none. No word is read.
+pub fn start<T: Text>(t: &T) -> Index
+    ensures { result ≡ element_index Scalars (T.storage t.now) (T.whole t.now) (T.first t.now) 0 }
+{
+    calls::start(t, View::Scalars)
+}
+
+/// The index behind the last scalar. No word is read.
+pub fn end<T: Text>(t: &T) -> Index
+    ensures { result ≡ element_index Scalars (T.storage t.now) (T.whole t.now) (T.first t.now)
+        (element_count Scalars (T.whole t.now) (T.first t.now) (T.end t.now)) }
+{
+    calls::end(t, View::Scalars)
+}
+
+/// The number of scalars.
+///
+/// Where the text is marked ASCII no word is read; else at most two a scalar, in one pass.
+pub fn count<T: Text, L: Ledger>(t: &mut T, steps: &mut Steps<L>) -> u64
+    ensures value { result ≡ element_count Scalars (T.whole t.old) (T.first t.old) (T.end t.old) }
+    ensures kept { t.new ≡ t.old }
+    ensures cost { steps.new ≤ steps.old + 2 * (T.end t.old - T.first t.old) }
+    ensures unread { T.marked_ascii t.old ≡ true → steps.new ≡ steps.old }
+{
+    calls::count(t, View::Scalars, steps)
+}
+
+/// The scalar that an index is rounded down to.
+///
+/// Refused exactly where `resolve` refuses the index, with its numbers, and where it stands at the end, with that place and the text's
+/// bounds in code units of the storage. At most four words are read, and those that resolving an index of the other encoding reads.
+pub fn element<T: Text, L: Ledger>(
+    t: &mut T,
+    i: Index,
+    steps: &mut Steps<L>,
+) -> Result<char, OutOfBounds>
+    ensures element { IfOk result (IsElement Scalars (T.storage t.old) (T.whole t.old) (T.first t.old) (T.end t.old) i) }
+    ensures refused { IfErr result (IsStopped Scalars (T.storage t.old) (T.whole t.old) (T.first t.old) (T.end t.old) i
+        (element_count Scalars (T.whole t.old) (T.first t.old) (T.end t.old))) }
+    ensures kept { t.new ≡ t.old }
+    ensures cost { steps.new ≤ steps.old + 2 * length (T.whole t.old) + 6 }
+    ensures near { reads_other (T.storage t.old) i ≡ false → steps.new ≤ steps.old + 4 }
+{
+    let (_low, high) = bounds(t);
+    let spot = match spot_of(t, View::Scalars, i, steps) {
+        Ok(spot) => spot,
+        Err(out) => return Err(out),
+    };
+    if spot.at == high {
+        return Err(leaving(t, View::Scalars, spot));
+    }
+    let (scalar, _width) = scalar_at(t, spot.at, steps);
+    Ok(scalar)
+}
+
+/// The index behind the scalar that an index is rounded down to.
+///
+/// Refused exactly where `resolve` refuses the index, with its numbers, and where it stands at the end, with that place and the text's
+/// bounds in code units of the storage. At most four words are read, and those that resolving an index of the other encoding reads.
+pub fn after<T: Text, L: Ledger>(
+    t: &mut T,
+    i: Index,
+    steps: &mut Steps<L>,
+) -> Result<Index, OutOfBounds>
+    ensures next { IfOk result (IsAfter Scalars (T.storage t.old) (T.whole t.old) (T.first t.old) (T.end t.old) i) }
+    ensures refused { IfErr result (IsStopped Scalars (T.storage t.old) (T.whole t.old) (T.first t.old) (T.end t.old) i
+        (element_count Scalars (T.whole t.old) (T.first t.old) (T.end t.old))) }
+    ensures kept { t.new ≡ t.old }
+    ensures cost { steps.new ≤ steps.old + 2 * length (T.whole t.old) + 14 }
+    ensures near { reads_other (T.storage t.old) i ≡ false → steps.new ≤ steps.old + 4 }
+    ensures unread { T.marked_ascii t.old ≡ true → steps.new ≡ steps.old }
+{
+    calls::after(t, View::Scalars, i, steps)
+}
+
+/// The index of the scalar before the one that an index is rounded down to.
+///
+/// Refused exactly where `resolve` refuses the index, with its numbers, and where it stands at the start, with that place and the text's
+/// bounds in code units of the storage. At most four words are read, and those that resolving an index of the other encoding reads.
+pub fn before<T: Text, L: Ledger>(
+    t: &mut T,
+    i: Index,
+    steps: &mut Steps<L>,
+) -> Result<Index, OutOfBounds>
+    ensures previous { IfOk result (IsBefore Scalars (T.storage t.old) (T.whole t.old) (T.first t.old) (T.end t.old) i) }
+    ensures refused { IfErr result (IsStopped Scalars (T.storage t.old) (T.whole t.old) (T.first t.old) (T.end t.old) i 0) }
+    ensures kept { t.new ≡ t.old }
+    ensures cost { steps.new ≤ steps.old + 2 * length (T.whole t.old) + 10 }
+    ensures near { reads_other (T.storage t.old) i ≡ false → steps.new ≤ steps.old + 4 }
+    ensures unread { T.marked_ascii t.old ≡ true → steps.new ≡ steps.old }
+{
+    calls::before(t, View::Scalars, i, steps)
+}
+
+/// The index of the scalar `n` scalars behind the one that an index is rounded down to, or before it where `n` is negative.
+///
+/// Refused exactly where `resolve` refuses the index, with its numbers, and where that place is before the first scalar or past the
+/// end, with the place that the index is rounded down to and the text's bounds in code units of the storage.
+pub fn offset_by<T: Text, L: Ledger>(
+    t: &mut T,
+    i: Index,
+    n: i64,
+    steps: &mut Steps<L>,
+) -> Result<Index, OutOfBounds>
+    ensures there { IfOk result (IsMoved Scalars (T.storage t.old) (T.whole t.old) (T.first t.old) (T.end t.old) i n) }
+    ensures refused { IfErr result (IsMoveOut Scalars (T.storage t.old) (T.whole t.old) (T.first t.old) (T.end t.old) i n) }
+    ensures kept { t.new ≡ t.old }
+    ensures near { reads_other (T.storage t.old) i ≡ false → steps.new ≤ steps.old + 4 * unsigned_abs n + 12 }
+    ensures unread { T.marked_ascii t.old ≡ true → steps.new ≡ steps.old }
+{
+    calls::offset_by(t, View::Scalars, i, n, steps)
+}
+
+/// How many scalars lie from the one that an index is rounded down to, to another: below 0 where that is before it.
+///
+/// Refused exactly where `resolve` refuses the first index or, where it doesn't, the second, with its numbers.
+/// Where the text is marked ASCII no word is read; else one pass from the earlier of the two, at most two words a scalar.
+pub fn distance<T: Text, L: Ledger>(
+    t: &mut T,
+    from: Index,
+    to: Index,
+    steps: &mut Steps<L>,
+) -> Result<i64, OutOfBounds>
+    ensures scalars { IfOk result (IsDistance Scalars (T.storage t.old) (T.whole t.old) (T.first t.old) (T.end t.old) from to) }
+    ensures refused { IfErr result (IsEitherOut Scalars (T.storage t.old) (T.whole t.old) (T.first t.old) (T.end t.old) from to) }
+    ensures kept { t.new ≡ t.old }
+    ensures cost { steps.new ≤ steps.old + 4 * length (T.whole t.old) + 2 * (T.end t.old - T.first t.old) + 8 }
+    ensures near { reads_other (T.storage t.old) from ≡ false → reads_other (T.storage t.old) to ≡ false
+        → steps.new ≤ steps.old + 2 * (T.end t.old - T.first t.old) + 8 }
+    ensures unread { T.marked_ascii t.old ≡ true → steps.new ≡ steps.old }
+{
+    calls::distance(t, View::Scalars, from, to, steps)
+}

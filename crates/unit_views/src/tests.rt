@@ -1,0 +1,338 @@
+//! What no clause says: what the calls answer at texts written out by hand, over storage of either encoding.
+ghost use Rattle.std.specs.Prelude.{◌≡◌, ◌+◌, ◌*◌, ◌<◌, ◌≤◌, IfOk, length};
+ghost use Rattle.text_spec.specs.Packed.{byte_of, bytes_of};
+
+use crate::{View, scalars, utf8};
+use index_words::Index;
+use std::alloc::Global;
+use std::marker::Brand;
+use std::process::Abort;
+use std::sync::ledger::{Blank, Ledger};
+use text_spec::{Encoding, OutOfMemory};
+use word_units::{OutOfBounds, Steps, VecText};
+
+/// Byte `p` of words.
+fn held_byte(words: &[u64], p: u64) -> u8
+    requires { p < 8 * length words.now }
+    ensures { result ≡ byte_of words.now p }
+{
+    let word = words[(p / 8) as usize];
+    ((word >> (8 * (p % 8))) % 256) as u8
+}
+
+/// The first `count` bytes of words.
+fn held_bytes(alloc: Global, words: &[u64], count: u64) -> Result<Vec<u8>, OutOfMemory>
+    requires { count ≤ 8 * length words.now }
+    ensures { IfOk result (λ bytes. bytes.items ≡ bytes_of words.now count) }
+{
+    let mut bytes = Vec::new(alloc);
+    for p in 0..count {
+        bytes.push(held_byte(words, p))?;
+    }
+    Ok(bytes)
+}
+
+/// The text of packed bytes, where they are UTF-8.
+fn text8(alloc: Global, words: Vec<u64>, count: u64) -> Result<Option<VecText>, OutOfMemory> {
+    if count >= 1_000_000 || count > 8 * words.len() as u64 {
+        return Ok(None);
+    }
+    let bytes = held_bytes(alloc, words.as_slice(), count)?;
+    match std::str::from_utf8(bytes.as_slice()) {
+        Ok(_) => Ok(Some(VecText::new(words, Encoding::Utf8, count))),
+        Err(_) => Ok(None),
+    }
+}
+
+/// The text of packed 16-bit units.
+fn text16(words: Vec<u64>, count: u64) -> Option<VecText> {
+    if count >= 1_000_000 || count > 4 * words.len() as u64 {
+        return None;
+    }
+    Some(VecText::new(words, Encoding::Utf16, count))
+}
+
+fn start_of(t: &VecText, view: View) -> Index {
+    match view {
+        View::Scalars => scalars::start(t),
+        View::Units(_) => utf8::start(t),
+    }
+}
+
+fn end_of(t: &VecText, view: View) -> Index {
+    match view {
+        View::Scalars => scalars::end(t),
+        View::Units(_) => utf8::end(t),
+    }
+}
+
+fn element<L: Ledger>(
+    t: &mut VecText,
+    view: View,
+    i: Index,
+    steps: &mut Steps<L>,
+) -> Result<u32, OutOfBounds> {
+    match view {
+        View::Scalars => Ok(scalars::element(t, i, steps)? as u32),
+        View::Units(_) => Ok(utf8::element(t, i, steps)? as u32),
+    }
+}
+
+fn after<L: Ledger>(
+    t: &mut VecText,
+    view: View,
+    i: Index,
+    steps: &mut Steps<L>,
+) -> Result<u64, OutOfBounds> {
+    match view {
+        View::Scalars => Ok(scalars::after(t, i, steps)?.bits()),
+        View::Units(_) => Ok(utf8::after(t, i, steps)?.bits()),
+    }
+}
+
+fn before<L: Ledger>(
+    t: &mut VecText,
+    view: View,
+    i: Index,
+    steps: &mut Steps<L>,
+) -> Result<u64, OutOfBounds> {
+    match view {
+        View::Scalars => Ok(scalars::before(t, i, steps)?.bits()),
+        View::Units(_) => Ok(utf8::before(t, i, steps)?.bits()),
+    }
+}
+
+fn offset_by<L: Ledger>(
+    t: &mut VecText,
+    view: View,
+    i: Index,
+    n: i64,
+    steps: &mut Steps<L>,
+) -> Result<u64, OutOfBounds> {
+    match view {
+        View::Scalars => Ok(scalars::offset_by(t, i, n, steps)?.bits()),
+        View::Units(_) => Ok(utf8::offset_by(t, i, n, steps)?.bits()),
+    }
+}
+
+fn distance<L: Ledger>(
+    t: &mut VecText,
+    view: View,
+    from: Index,
+    to: Index,
+    steps: &mut Steps<L>,
+) -> Result<i64, OutOfBounds> {
+    match view {
+        View::Scalars => scalars::distance(t, from, to, steps),
+        View::Units(_) => utf8::distance(t, from, to, steps),
+    }
+}
+
+fn count<L: Ledger>(t: &mut VecText, view: View, steps: &mut Steps<L>) -> u64 {
+    match view {
+        View::Scalars => scalars::count(t, steps),
+        View::Units(_) => utf8::count(t, steps),
+    }
+}
+
+/// An element, and the word of the index behind it.
+type Row = (u32, u64);
+
+/// What every call answers at an element and the place behind it, which has `offset` elements before it.
+fn row_holds<L: Ledger>(
+    rt: &impl Abort,
+    t: &mut VecText,
+    view: View,
+    here: Index,
+    row: Row,
+    offset: u32,
+    steps: &mut Steps<L>,
+) -> Index {
+    let (value, word) = row;
+    let offset = i64::from(offset);
+    let first = start_of(t, view);
+    let behind = Index::check(word).expect(rt, "a word of an index");
+    assert_eq!(rt;
+        element(t, view, here, steps),
+        Ok(value),
+        "element before {word}"
+    );
+    assert_eq!(rt; after(t, view, here, steps), Ok(word), "after, to {word}");
+    assert_eq!(rt;
+        before(t, view, behind, steps),
+        Ok(here.bits()),
+        "before {word}"
+    );
+    assert_eq!(rt;
+        offset_by(t, view, first, offset, steps),
+        Ok(word),
+        "{offset} on"
+    );
+    assert_eq!(rt;
+        offset_by(t, view, behind, -offset, steps),
+        Ok(first.bits()),
+        "{offset} back"
+    );
+    assert_eq!(rt;
+        distance(t, view, first, behind, steps),
+        Ok(offset),
+        "to {word}"
+    );
+    assert_eq!(rt;
+        distance(t, view, behind, first, steps),
+        Ok(-offset),
+        "from {word}"
+    );
+    behind
+}
+
+/// What the calls refuse at a text's ends, of which `behind` is the last; it has `wanted` elements.
+fn ends_hold<L: Ledger>(
+    rt: &impl Abort,
+    t: &mut VecText,
+    view: View,
+    behind: Index,
+    wanted: u32,
+    steps: &mut Steps<L>,
+) {
+    let first = start_of(t, view);
+    let length = i64::from(wanted);
+    let low = first.position();
+    let high = behind.position();
+    let at_end = OutOfBounds {
+        position: high,
+        low,
+        high,
+    };
+    let at_start = OutOfBounds {
+        position: low,
+        low,
+        high,
+    };
+    assert_eq!(rt; end_of(t, view).bits(), behind.bits(), "the end");
+    assert_eq!(rt; count(t, view, steps), u64::from(wanted), "the count");
+    assert_eq!(rt; element(t, view, behind, steps), Err(at_end), "no element");
+    assert_eq!(rt; after(t, view, behind, steps), Err(at_end), "none after");
+    assert_eq!(rt; before(t, view, first, steps), Err(at_start), "none before");
+    assert_eq!(rt;
+        offset_by(t, view, first, length + 1, steps),
+        Err(at_start),
+        "too far on"
+    );
+    assert_eq!(rt;
+        offset_by(t, view, behind, -length - 1, steps),
+        Err(at_end),
+        "too far back"
+    );
+}
+
+fn rows_hold_with<L: Ledger>(
+    rt: &impl Abort,
+    t: &mut VecText,
+    view: View,
+    rows: &[Row],
+    blank: Blank,
+)
+    requires name { blank.name ≡ L.name }
+    requires parts { blank.parts ≡ L.parts }
+    requires one { blank.parts ≡ 1 }
+{
+    let mut steps = Steps::<L>::from_blank(blank);
+    let mut here = start_of(t, view);
+    let mut offset: u32 = 0;
+    'rows: for row in rows {
+        offset = offset.saturating_add(1);
+        here = row_holds(rt, t, view, here, *row, offset, &mut steps);
+    }
+    ends_hold(rt, t, view, here, offset, &mut steps);
+}
+
+/// The elements of a text, each with the index behind it.
+fn rows_hold(rt: &impl Abort, t: &mut VecText, view: View, rows: &[Row]) {
+    rows_hold_with::<Brand>(rt, t, view, rows, Blank::new(1));
+}
+
+const UTF8: View = View::Units(Encoding::Utf8);
+
+#[test]
+fn every_call_in_utf8_storage(rt: HostRuntime) -> Result<(), OutOfMemory> {
+    let alloc = rt.alloc();
+    // "aé€😀": the last scalar lies in two words
+    let words = Vec::from_slice(alloc, &[0x9FF0_AC82_E2A9_C361, 0x8098])?;
+    let mut t = text8(alloc, words, 10)?.expect(&rt, "UTF-8");
+    rows_hold(
+        &rt,
+        &mut t,
+        View::Scalars,
+        &[
+            (0x61, 65541),
+            (0xE9, 196613),
+            (0x20AC, 393221),
+            (0x1F600, 655365),
+        ],
+    );
+    rows_hold(
+        &rt,
+        &mut t,
+        UTF8,
+        &[
+            (0x61, 65541),
+            (0xC3, 131076),
+            (0xA9, 196613),
+            (0xE2, 262148),
+            (0x82, 327684),
+            (0xAC, 393221),
+            (0xF0, 458756),
+            (0x9F, 524292),
+            (0x98, 589828),
+            (0x80, 655365),
+        ],
+    );
+    let words = Vec::from_slice(alloc, &[0])?;
+    let mut none = text8(alloc, words, 0)?.expect(&rt, "UTF-8");
+    rows_hold(&rt, &mut none, View::Scalars, &[]);
+    rows_hold(&rt, &mut none, UTF8, &[]);
+    Ok(())
+}
+
+#[test]
+fn every_call_in_utf16_storage(rt: HostRuntime) -> Result<(), OutOfMemory> {
+    let alloc = rt.alloc();
+    // a lone second half, 'A', a pair in two words, a lone first half
+    let words = Vec::from_slice(alloc, &[0xDE00_D83D_0041_DC00, 0xD800])?;
+    let mut t = text16(words, 5).expect(&rt, "units");
+    rows_hold(
+        &rt,
+        &mut t,
+        View::Scalars,
+        &[
+            (0xFFFD, 65545),
+            (0x41, 131081),
+            (0x1F600, 262153),
+            (0xFFFD, 327689),
+        ],
+    );
+    rows_hold(
+        &rt,
+        &mut t,
+        UTF8,
+        &[
+            (0xEF, 16392),
+            (0xBF, 32776),
+            (0xBD, 65545),
+            (0x41, 131081),
+            (0xF0, 147464),
+            (0x9F, 163848),
+            (0x98, 180232),
+            (0x80, 262153),
+            (0xEF, 278536),
+            (0xBF, 294920),
+            (0xBD, 327689),
+        ],
+    );
+    let words = Vec::from_slice(alloc, &[0])?;
+    let mut none = text16(words, 0).expect(&rt, "units");
+    rows_hold(&rt, &mut none, View::Scalars, &[]);
+    rows_hold(&rt, &mut none, UTF8, &[]);
+    Ok(())
+}

@@ -1,0 +1,224 @@
+//! A text as code units of UTF-16 (The Unicode Standard, section 3.9, D91).
+ghost use Rattle.std.specs.Char.Escape.{encode_utf16};
+ghost use Rattle.text_spec.specs.Offsets.{start, len_utf16};
+ghost use Rattle.text_spec.specs.Views.{width_in, part};
+ghost use Rattle.unit_views.specs.Spots.{IsSpot, spot_offset};
+ghost use Rattle.std.specs.Prelude.{◌-◌, slice_index, ◌≡◌, ◌*◌, ◌+◌, ◌<◌, ◌≤◌, true, false, Some, IfOk, IfErr, length};
+ghost use Rattle.std.specs.Int.RustNames.{unsigned_abs};
+ghost use Rattle.rounding.specs.Resolving.{reads_other};
+ghost use Rattle.unit_views.specs.declared.view.View.TheVariants.{Units};
+ghost use Rattle.text_spec.specs.declared.encoding.Encoding.TheVariants.{Utf8, Utf16};
+ghost use Rattle.unit_views.specs.Elements.{elements, element_count, element_offset, IsOutOfRange, element_index, IsElement, IsAfter, IsBefore, IsMoved, IsDistance, IsStopped, IsMoveOut, IsEitherOut};
+
+use index_words::Index;
+use rounding::bounds;
+use std::sync::ledger::Ledger;
+use text_spec::Encoding;
+use unit_views::{Spot, View, calls, leaving, spot_of};
+use word_units::{OutOfBounds, Steps, Text, scalar_at, unit_at};
+
+/// The index of the first code unit, or of the end where there is none. No word is read.
+pub fn start<T: Text>(t: &T) -> Index
+    ensures { result ≡ element_index (Units Utf16) (T.storage t.now) (T.whole t.now) (T.first t.now) 0 }
+{
+    calls::start(t, View::Units(Encoding::Utf16))
+}
+
+/// The index behind the last code unit. No word is read.
+pub fn end<T: Text>(t: &T) -> Index
+    ensures { result ≡ element_index (Units Utf16) (T.storage t.now) (T.whole t.now) (T.first t.now)
+        (element_count (Units Utf16) (T.whole t.now) (T.first t.now) (T.end t.now)) }
+{
+    calls::end(t, View::Units(Encoding::Utf16))
+}
+
+/// The number of code units.
+///
+/// In UTF-16 storage, and where the text is marked ASCII, no word is read; else at most two a scalar, in one pass.
+pub fn count<T: Text, L: Ledger>(t: &mut T, steps: &mut Steps<L>) -> u64
+    ensures value { result ≡ element_count (Units Utf16) (T.whole t.old) (T.first t.old) (T.end t.old) }
+    ensures kept { t.new ≡ t.old }
+    ensures cost { steps.new ≤ steps.old + 2 * (T.end t.old - T.first t.old) }
+    ensures unread { T.marked_ascii t.old ≡ true → steps.new ≡ steps.old }
+{
+    calls::count(t, View::Units(Encoding::Utf16), steps)
+}
+
+/// The code unit that an index is rounded down to.
+///
+/// Refused exactly where `resolve` refuses the index, with its numbers, and where it stands at the end, with that place and the text's
+/// bounds in code units of the storage. At most six words are read, and those that resolving an index of the other encoding reads.
+pub fn element<T: Text, L: Ledger>(
+    t: &mut T,
+    i: Index,
+    steps: &mut Steps<L>,
+) -> Result<u16, OutOfBounds>
+    ensures element { IfOk result (IsElement (Units Utf16) (T.storage t.old) (T.whole t.old) (T.first t.old) (T.end t.old) i) }
+    ensures refused { IfErr result (IsStopped (Units Utf16) (T.storage t.old) (T.whole t.old) (T.first t.old) (T.end t.old) i
+        (element_count (Units Utf16) (T.whole t.old) (T.first t.old) (T.end t.old))) }
+    ensures kept { t.new ≡ t.old }
+    ensures cost { steps.new ≤ steps.old + 2 * length (T.whole t.old) + 6 }
+    ensures near { reads_other (T.storage t.old) i ≡ false → steps.new ≤ steps.old + 6 }
+{
+    let (_low, high) = bounds(t);
+    let spot = match spot_of(t, View::Units(Encoding::Utf16), i, steps) {
+        Ok(spot) => spot,
+        Err(out) => return Err(out),
+    };
+    if spot.at == high {
+        return Err(leaving(t, View::Units(Encoding::Utf16), spot));
+    }
+    Ok(unit_here(t, spot, steps))
+}
+
+/// The code unit at an element that isn't the end.
+fn unit_here<T: Text, L: Ledger>(t: &mut T, spot: Spot, steps: &mut Steps<L>) -> u16
+    requires spot { IsSpot (Units Utf16) (T.storage t.old) (T.whole t.old) (T.first t.old) (T.end t.old) spot.at spot.past }
+    requires inside { spot.at < start (width_in (T.storage t.old)) (T.whole t.old) (T.end t.old) }
+    ensures value { result ≡ slice_index (elements (Units Utf16) (part (T.whole t.old) (T.first t.old) (T.end t.old)))
+        (spot_offset (Units Utf16) (T.storage t.old) (T.whole t.old) (T.first t.old) spot.at spot.past) }
+    ensures kept { t.new ≡ t.old }
+    ensures cost { steps.new ≤ steps.old + 2 }
+{
+    let (_low, _high) = bounds(t);
+    match t.encoding() {
+        Encoding::Utf16 => unit_at(t, spot.at, steps),
+        Encoding::Utf8 => {
+            let (scalar, _width) = scalar_at(t, spot.at, steps);
+            unit_of_scalar(scalar, spot.past)
+        }
+    }
+}
+
+/// Unit `past` of the UTF-16 of a scalar.
+fn unit_of_scalar(scalar: char, past: u64) -> u16
+    requires { past < len_utf16 scalar }
+    ensures { result ≡ slice_index (encode_utf16 scalar) past }
+{
+    let mut units = [0; 2];
+    scalar.encode_utf16(&mut units)[past as usize]
+}
+
+/// The index behind the code unit that an index is rounded down to.
+///
+/// Refused exactly where `resolve` refuses the index, with its numbers, and where it stands at the end, with that place and the text's
+/// bounds in code units of the storage. At most 14 words are read, and those that resolving an index of the other encoding reads.
+pub fn after<T: Text, L: Ledger>(
+    t: &mut T,
+    i: Index,
+    steps: &mut Steps<L>,
+) -> Result<Index, OutOfBounds>
+    ensures next { IfOk result (IsAfter (Units Utf16) (T.storage t.old) (T.whole t.old) (T.first t.old) (T.end t.old) i) }
+    ensures refused { IfErr result (IsStopped (Units Utf16) (T.storage t.old) (T.whole t.old) (T.first t.old) (T.end t.old) i
+        (element_count (Units Utf16) (T.whole t.old) (T.first t.old) (T.end t.old))) }
+    ensures kept { t.new ≡ t.old }
+    ensures cost { steps.new ≤ steps.old + 2 * length (T.whole t.old) + 14 }
+    ensures near { reads_other (T.storage t.old) i ≡ false → steps.new ≤ steps.old + 14 }
+    ensures unread { T.marked_ascii t.old ≡ true → steps.new ≡ steps.old }
+{
+    calls::after(t, View::Units(Encoding::Utf16), i, steps)
+}
+
+/// The index of the code unit before the one that an index is rounded down to.
+///
+/// Refused exactly where `resolve` refuses the index, with its numbers, and where it stands at the start, with that place and the text's
+/// bounds in code units of the storage. At most ten words are read, and those that resolving an index of the other encoding reads.
+pub fn before<T: Text, L: Ledger>(
+    t: &mut T,
+    i: Index,
+    steps: &mut Steps<L>,
+) -> Result<Index, OutOfBounds>
+    ensures previous { IfOk result (IsBefore (Units Utf16) (T.storage t.old) (T.whole t.old) (T.first t.old) (T.end t.old) i) }
+    ensures refused { IfErr result (IsStopped (Units Utf16) (T.storage t.old) (T.whole t.old) (T.first t.old) (T.end t.old) i 0) }
+    ensures kept { t.new ≡ t.old }
+    ensures cost { steps.new ≤ steps.old + 2 * length (T.whole t.old) + 10 }
+    ensures near { reads_other (T.storage t.old) i ≡ false → steps.new ≤ steps.old + 10 }
+    ensures unread { T.marked_ascii t.old ≡ true → steps.new ≡ steps.old }
+{
+    calls::before(t, View::Units(Encoding::Utf16), i, steps)
+}
+
+/// The index of the code unit `n` code units behind the one that an index is rounded down to, or before it where `n` is negative.
+///
+/// Refused exactly where `resolve` refuses the index, with its numbers, and where that place is before the first code unit or past the
+/// end, with the place that the index is rounded down to and the text's bounds in code units of the storage.
+pub fn offset_by<T: Text, L: Ledger>(
+    t: &mut T,
+    i: Index,
+    n: i64,
+    steps: &mut Steps<L>,
+) -> Result<Index, OutOfBounds>
+    ensures there { IfOk result (IsMoved (Units Utf16) (T.storage t.old) (T.whole t.old) (T.first t.old) (T.end t.old) i n) }
+    ensures refused { IfErr result (IsMoveOut (Units Utf16) (T.storage t.old) (T.whole t.old) (T.first t.old) (T.end t.old) i n) }
+    ensures kept { t.new ≡ t.old }
+    ensures near { reads_other (T.storage t.old) i ≡ false → steps.new ≤ steps.old + 4 * unsigned_abs n + 12 }
+    ensures unread { T.marked_ascii t.old ≡ true → steps.new ≡ steps.old }
+{
+    calls::offset_by(t, View::Units(Encoding::Utf16), i, n, steps)
+}
+
+/// How many code units lie from the one that an index is rounded down to, to another: below 0 where that is before it.
+///
+/// Refused exactly where `resolve` refuses the first index or, where it doesn't, the second, with its numbers.
+/// Where the text is marked ASCII no word is read; else, in UTF-8 storage, one pass from the earlier of the two, at most two words a scalar.
+pub fn distance<T: Text, L: Ledger>(
+    t: &mut T,
+    from: Index,
+    to: Index,
+    steps: &mut Steps<L>,
+) -> Result<i64, OutOfBounds>
+    ensures units { IfOk result (IsDistance (Units Utf16) (T.storage t.old) (T.whole t.old) (T.first t.old) (T.end t.old) from to) }
+    ensures refused { IfErr result (IsEitherOut (Units Utf16) (T.storage t.old) (T.whole t.old) (T.first t.old) (T.end t.old) from to) }
+    ensures kept { t.new ≡ t.old }
+    ensures cost { steps.new ≤ steps.old + 4 * length (T.whole t.old) + 2 * (T.end t.old - T.first t.old) + 8 }
+    ensures near { reads_other (T.storage t.old) from ≡ false → reads_other (T.storage t.old) to ≡ false
+        → steps.new ≤ steps.old + 2 * (T.end t.old - T.first t.old) + 8 }
+    ensures unread { T.marked_ascii t.old ≡ true → steps.new ≡ steps.old }
+{
+    calls::distance(t, View::Units(Encoding::Utf16), from, to, steps)
+}
+
+/// The index of the code unit with an offset, which may be the number of code units.
+///
+/// Refused exactly where the offset is above that number, with the offset, 0 and that number. Where the text is marked ASCII no word
+/// is read. In UTF-8 storage at most two words a scalar are read in one pass up to the code unit; in UTF-16 storage at most the two beside it.
+pub fn index_of_offset<T: Text, L: Ledger>(
+    t: &mut T,
+    offset: u64,
+    steps: &mut Steps<L>,
+) -> Result<Index, OutOfBounds>
+    ensures index { IfOk result (λ r. r ≡ element_index (Units Utf16) (T.storage t.old) (T.whole t.old) (T.first t.old) offset) }
+    ensures inside { IfOk result (λ r. offset ≤ element_count (Units Utf16) (T.whole t.old) (T.first t.old) (T.end t.old)) }
+    ensures refused { IfErr result (λ out. element_count (Units Utf16) (T.whole t.old) (T.first t.old) (T.end t.old) < offset) }
+    ensures carries { IfErr result (λ out. out ≡ record {
+      position = offset;
+      low = 0;
+      high = element_count (Units Utf16) (T.whole t.old) (T.first t.old) (T.end t.old);
+    }) }
+    ensures kept { t.new ≡ t.old }
+    ensures pass { T.storage t.old ≡ Utf8 → steps.new ≤ steps.old + 2 * (T.end t.old - T.first t.old) }
+    ensures near { T.storage t.old ≡ Utf8 → steps.new ≤ steps.old + 2 * offset }
+    ensures own { T.storage t.old ≡ Utf16 → steps.new ≤ steps.old + 2 }
+    ensures unread { T.marked_ascii t.old ≡ true → steps.new ≡ steps.old }
+{
+    calls::index_of_offset(t, View::Units(Encoding::Utf16), offset, steps)
+}
+
+/// The offset of the code unit that an index is rounded down to.
+///
+/// Refused exactly where `resolve` refuses the index, with its numbers. Where the text is marked ASCII no word is read; else at most
+/// two a scalar in one pass up to the code unit, at most four beside it, and those that resolving an index of the other encoding reads.
+pub fn offset_of_index<T: Text, L: Ledger>(
+    t: &mut T,
+    i: Index,
+    steps: &mut Steps<L>,
+) -> Result<u64, OutOfBounds>
+    ensures offset { IfOk result (λ offset. element_offset (Units Utf16) (T.storage t.old) (T.whole t.old) (T.first t.old) (T.end t.old) i ≡ Some offset) }
+    ensures refused { IfErr result (IsOutOfRange (Units Utf16) (T.storage t.old) (T.whole t.old) (T.first t.old) (T.end t.old) i) }
+    ensures kept { t.new ≡ t.old }
+    ensures cost { steps.new ≤ steps.old + 2 * length (T.whole t.old) + 2 * (T.end t.old - T.first t.old) + 4 }
+    ensures near { reads_other (T.storage t.old) i ≡ false → steps.new ≤ steps.old + 2 * (T.end t.old - T.first t.old) + 4 }
+    ensures unread { T.marked_ascii t.old ≡ true → steps.new ≡ steps.old }
+{
+    calls::offset_of_index(t, View::Units(Encoding::Utf16), i, steps)
+}
