@@ -1,6 +1,21 @@
 //! What no clause says: that a sink finds memory, that calls succeed, and what readers and writers of std do below.
 use crate::{Failed, Gate, IoSink, IoSource, MemSink, MemSource, OpenGate, Sink, Source};
+use std::io::{Error, ErrorKind, Write};
 use text_spec::OutOfMemory;
+
+/// A writer that takes everything and whose flush fails.
+#[derive(Drop)]
+struct Stuck;
+
+impl Write for Stuck {
+    fn write(&mut self, buf: &[u8]) -> std::io::Result<usize> {
+        Ok(buf.len())
+    }
+
+    fn flush(&mut self) -> std::io::Result<()> {
+        Err(Error::from(ErrorKind::BrokenPipe))
+    }
+}
 
 #[test]
 fn a_source_gives_pieces_and_fails_where_listed(rt: HostRuntime) -> Result<(), OutOfMemory> {
@@ -49,6 +64,8 @@ fn readers_and_writers_of_std_serve(rt: HostRuntime) -> Result<(), OutOfMemory> 
     assert_eq!(rt; source.read(&mut buf), Ok(0));
     let mut sink = IoSink::new(Vec::<u8>::with_capacity(rt.alloc(), 3)?);
     assert_eq!(rt; sink.write(b"abc"), Ok(3));
+    let mut sink = IoSink::new(Stuck);
+    assert_eq!(rt; sink.write(b"abc"), Err(Failed));
     OpenGate.pass(0);
     Ok(())
 }
