@@ -5,36 +5,43 @@ use Rattle.text_spec.specs.declared.encoding.Encoding.{Encoding}
 use Rattle.text_spec.specs.Offsets.{start, down}
 use Rattle.text_spec.specs.Views.{width_in, size_in}
 use Rattle.text_spec.proofs.Downward.{down-length}
-use Rattle.text_spec.proofs.Walk.{start-suc, start-le, start-strict, down-next}
+use Rattle.text_spec.proofs.Walk.{start-suc, start-mono, start-le, start-strict, down-next}
 use Rattle.text_spec.proofs.Widths.{width_some}
+use Rattle.word_units.specs.Running.{PassesRun}
 use Rattle.word_units.specs.Walking.{Passes}
 use Rattle.rounding.proofs.Ascii.{start-ascii, down-ascii, width_one}
 use Rattle.unit_views.specs.declared.view.View.{View}
 use Rattle.unit_views.specs.declared.view.View.TheVariants.{Scalars, Units}
 use Rattle.unit_views.specs.Elements.{is_own, view_width}
 use Rattle.unit_views.specs.Spots.{Passing, Backing, Walked, WalkedBack}
-use Rattle.unit_views.proofs.Between.{down-mono, next_within, Previous, previous, previous_within}
-use Rattle.unit_views.proofs.Widths.{other_is, view_some, start-most}
+use Rattle.unit_views.proofs.Between.{down-mono, down-strict, Previous, previous, previous_within}
+use Rattle.unit_views.proofs.Widths.{other_is, start-ones, view_some, start-most}
 
--- one scalar passed
-pub passing : (view : View) (e : Encoding) (b : List ℕ) (at to room next more units : ℕ) → Passes e b at next more
-    → start (view_width view) b (suc (down (width_in e) b at)) ≡ start (view_width view) b (down (width_in e) b at) + units → 1 ≤ units
-    → start (width_in e) b (down (width_in e) b at) ≡ at → start (width_in e) b (down (width_in e) b to) ≡ to → at < to
-    → Passing (width_in e) (view_width view) b at to room next units
-passing view e b at to room next more units p counted some begins ends before =
+-- what is passed, once its elements are counted
+run_passing : (view : View) (e : Encoding) (b : List ℕ) (at to room most next units scalars count : ℕ) → PassesRun e b at most next units scalars
+    → start (view_width view) b (down (width_in e) b next) ≡ start (view_width view) b (down (width_in e) b at) + count → 1 ≤ count
+    → (scalars ≡ 1) ⊎ ((count ≡ 8) × ((next ≡ at + 8) × (8 ≤ most)))
+    → at + most ≤ to → most ≤ room → start (width_in e) b (down (width_in e) b at) ≡ at → start (width_in e) b (down (width_in e) b to) ≡ to → at < to
+    → Passing (width_in e) (view_width view) b at to room next count
+run_passing view e b at to room most next units scalars count p counted some size fits small begins ends before =
+    let w = width_in e in
+    let k = down w b at in
+    let less = down-strict w b at to begins ends before in
     record {
-      number = omega (arith, p.number);
+      number = ⊎_elim (λ is. omega (arith, p.number, is)) (λ is. omega (arith, p.number, is.0)) p.size;
       boundary = p.boundary;
-      counted = ap (start (view_width view) b) {x = down (width_in e) b next} {y = suc (down (width_in e) b at)} (omega (arith, p.number)) ∙ counted;
+      counted = counted;
       ahead = p.ahead;
-      within = next_within e b at next more to p begins ends before;
+      within = ⊎_elim (λ is. omega (arith, p.boundary, ends, start-mono w b (down w b next) (down w b to) (omega (arith, p.number, is, less)))) (λ is. omega (arith, is.1.0, is.1.1, fits)) size;
       some = some;
-      one = λ _. counted;
+      one = λ more. ⊎_elim (λ is. ap (start (view_width view) b) {x = suc k} {y = down w b next} (omega (arith, p.number, is)) ∙ counted) (λ is. absurd (omega (arith, more, is.0, is.1.1, small))) size;
     }
 
-pub one_scalar : (e : Encoding) (b : List ℕ) (at next more : ℕ) → Passes e b at next more
-    → start (view_width Scalars) b (suc (down (width_in e) b at)) ≡ start (view_width Scalars) b (down (width_in e) b at) + 1
-one_scalar e b at next more p = start-suc (view_width Scalars) b (down (width_in e) b at) p.inside
+-- eight scalars of ASCII are eight elements
+eight : (units scalars count most next at : ℕ) → (scalars ≡ 1) ⊎ ((scalars ≡ 8) × (units ≡ 8) × (next ≡ at + 8) × (8 ≤ most)) → (count ≡ scalars) ⊎ (count ≡ units)
+    → (scalars ≡ 1) ⊎ ((count ≡ 8) × ((next ≡ at + 8) × (8 ≤ most)))
+eight units scalars count most next at size same =
+    ⊎_elim (λ is. inl is) (λ is. inr (⊎_elim (λ e. omega (arith, e, is.0)) (λ e. omega (arith, e, is.1)) same, (is.2, is.3))) size
 
 pub its_units : (encoding e : Encoding) (b : List ℕ) (at next more : ℕ) → is_own (Units encoding) e ≡ false → Passes e b at next more
     → start (width_in encoding) b (suc (down (width_in e) b at)) ≡ start (width_in encoding) b (down (width_in e) b at) + more
@@ -60,20 +67,29 @@ backing view e b at to q units begins ends after p counted some few =
       few = few;
     }
 
--- the same by the view that the call is given
-pub passing_scalars : (view : View) (e : Encoding) (b : List ℕ) (at to room next more : ℕ) → view ≡ Scalars → Passes e b at next more
-    → start (width_in e) b (down (width_in e) b at) ≡ at → start (width_in e) b (down (width_in e) b to) ≡ to → at < to
-    → Passing (width_in e) (view_width view) b at to room next 1
-passing_scalars view e b at to room next more is p begins ends before =
-    subst (λ v. Passing (width_in e) (view_width v) b at to room next 1) (sym is)
-    (passing Scalars e b at to room next more 1 p (one_scalar e b at next more p) (omega arith) begins ends before)
+-- by the view that the call is given
+pub passing_scalars : (view : View) (e : Encoding) (b : List ℕ) (at to room most next units scalars : ℕ) → view ≡ Scalars → PassesRun e b at most next units scalars
+    → at + most ≤ to → most ≤ room → start (width_in e) b (down (width_in e) b at) ≡ at → start (width_in e) b (down (width_in e) b to) ≡ to → at < to
+    → Passing (width_in e) (view_width view) b at to room next scalars
+passing_scalars view e b at to room most next units scalars is p fits small begins ends before =
+    let w = width_in e in
+    let counted : start (view_width Scalars) b (down w b next) ≡ start (view_width Scalars) b (down w b at) + scalars =
+    omega (arith, p.number, start-ones b (down w b next) (down-length w b next), start-ones b (down w b at) (down-length w b at)) in
+    let some : 1 ≤ scalars = ⊎_elim (λ one. omega (arith, one)) (λ many. omega (arith, many.0)) p.size in
+    subst (λ v. Passing w (view_width v) b at to room next scalars) (sym is)
+    (run_passing Scalars e b at to room most next units scalars scalars p counted some (eight units scalars scalars most next at p.size (inl refl)) fits small begins ends before)
 
-pub passing_units : (view : View) (encoding e : Encoding) (b : List ℕ) (at to room next more : ℕ) → view ≡ Units encoding → is_own view e ≡ false → Passes e b at next more
+pub passing_units : (view : View) (encoding e : Encoding) (b : List ℕ) (at to room most next units scalars : ℕ) → view ≡ Units encoding → is_own view e ≡ false
+    → PassesRun e b at most next units scalars → at + most ≤ to → most ≤ room
     → start (width_in e) b (down (width_in e) b at) ≡ at → start (width_in e) b (down (width_in e) b to) ≡ to → at < to
-    → Passing (width_in e) (view_width view) b at to room next more
-passing_units view encoding e b at to room next more is other p begins ends before =
-    subst (λ v. Passing (width_in e) (view_width v) b at to room next more) (sym is)
-    (passing (Units encoding) e b at to room next more more p (its_units encoding e b at next more (subst (λ v. is_own v e ≡ false) is other) p) p.some begins ends before)
+    → Passing (width_in e) (view_width view) b at to room next units
+passing_units view encoding e b at to room most next units scalars is other p fits small begins ends before =
+    let w = width_in e in
+    let same = other_is encoding e (subst (λ v. is_own v e ≡ false) is other) in
+    let counted : start (width_in encoding) b (down w b next) ≡ start (width_in encoding) b (down w b at) + units =
+    ap (λ f. start f b (down w b next)) (sym same) ∙ p.other ∙ ap (λ f. start f b (down w b at) + units) same in
+    subst (λ v. Passing w (view_width v) b at to room next units) (sym is)
+    (run_passing (Units encoding) e b at to room most next units scalars units p counted p.some (eight units scalars units most next at p.size (inr refl)) fits small begins ends before)
 
 -- the boundary before another
 pub record Back (e : Encoding) (b : List ℕ) (at q : ℕ) : Type 0 where

@@ -14,7 +14,7 @@ use word_units::{Steps, Text};
 /// The place `room` elements before `from`: the boundary of its scalar, and how many elements of it lie before. None where that is before `to`.
 ///
 /// `from` and `to` are scalar boundaries, in code units of the storage, and the elements aren't the storage's code units.
-/// Where the text is marked ASCII no word is read; else at most four a scalar, and two where the elements are scalars.
+/// Where the text is marked ASCII no word is read; else at most four a scalar, and two where the elements are scalars, in one pass.
 pub(crate) fn walk_back<T: Text, L: Ledger>(
     t: &mut T,
     view: View,
@@ -32,7 +32,9 @@ pub(crate) fn walk_back<T: Text, L: Ledger>(
     ensures cause { result ≡ None ↔ (start (view_width view) (T.whole t.old) (down (width_in (T.storage t.old)) (T.whole t.old) from)
         < start (view_width view) (T.whole t.old) (down (width_in (T.storage t.old)) (T.whole t.old) to) + room) }
     ensures kept { t.new ≡ t.old }
-    ensures cost { steps.new ≤ steps.old + 4 * room }
+    ensures pass { steps.new + 4 * down (width_in (T.storage t.old)) (T.whole t.old) to
+        ≤ steps.old + 4 * down (width_in (T.storage t.old)) (T.whole t.old) from }
+    ensures near { steps.new ≤ steps.old + 4 * room }
     ensures scalars { view ≡ Scalars → steps.new ≤ steps.old + 2 * room }
     ensures unread { T.marked_ascii t.old ≡ true → steps.new ≡ steps.old }
 {

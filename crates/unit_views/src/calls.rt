@@ -41,6 +41,7 @@ pub fn count<T: Text, L: Ledger>(t: &mut T, view: View, steps: &mut Steps<L>) ->
     ensures value { result ≡ element_count view (T.whole t.old) (T.first t.old) (T.end t.old) }
     ensures kept { t.new ≡ t.old }
     ensures cost { steps.new ≤ steps.old + 2 * (T.end t.old - T.first t.old) }
+    ensures own { is_own view (T.storage t.old) ≡ true → steps.new ≡ steps.old }
     ensures unread { T.marked_ascii t.old ≡ true → steps.new ≡ steps.old }
 {
     let (low, high) = bounds(t);
@@ -121,6 +122,8 @@ pub fn offset_by<T: Text, L: Ledger>(
     ensures there { IfOk result (IsMoved view (T.storage t.old) (T.whole t.old) (T.first t.old) (T.end t.old) i n) }
     ensures refused { IfErr result (IsMoveOut view (T.storage t.old) (T.whole t.old) (T.first t.old) (T.end t.old) i n) }
     ensures kept { t.new ≡ t.old }
+    ensures cost { steps.new ≤ steps.old + 2 * length (T.whole t.old) + 4 * (T.end t.old - T.first t.old) + 6 }
+    ensures pass { reads_other (T.storage t.old) i ≡ false → steps.new ≤ steps.old + 4 * (T.end t.old - T.first t.old) + 6 }
     ensures near { reads_other (T.storage t.old) i ≡ false → steps.new ≤ steps.old + 4 * unsigned_abs n + 12 }
     ensures unread { T.marked_ascii t.old ≡ true → steps.new ≡ steps.old }
 {

@@ -8,9 +8,19 @@ ghost use Rattle.unit_views.specs.Spots.{Passing, Backing};
 
 use crate::view::View;
 use std::sync::ledger::Ledger;
-use word_units::{Steps, Text, boundary_at_or_before, pass_scalar};
+use word_units::{Steps, Text, boundary_at_or_before, pass_run, pass_scalar};
 
-/// Where the scalar that begins at the boundary `at` ends, and how many elements it has. At most two words are read.
+/// How much may be passed at once: no more than lies before `to`, and no more than there is room for.
+fn run_limit(at: u64, to: u64, room: u64) -> u64
+    requires { at < to }
+    ensures ends { at + result ≤ to }
+    ensures fits { result ≤ room }
+{
+    if room < to - at { room } else { to - at }
+}
+
+/// Where what is passed from the boundary `at` on ends, and how many elements that is: a scalar's, or those of several of ASCII
+/// that end no later than `to` and for which there is room. At most two words are read.
 pub(crate) fn pass_elements<T: Text, L: Ledger>(
     t: &mut T,
     view: View,
@@ -28,9 +38,9 @@ pub(crate) fn pass_elements<T: Text, L: Ledger>(
     ensures kept { t.new ≡ t.old }
     ensures cost { steps.new ≤ steps.old + 2 }
 {
-    let (next, units) = pass_scalar(t, at, steps);
+    let (next, units, scalars) = pass_run(t, at, run_limit(at, to, room), steps);
     match view {
-        View::Scalars => (next, 1),
+        View::Scalars => (next, scalars),
         View::Units(_) => (next, units),
     }
 }

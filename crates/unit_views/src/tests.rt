@@ -336,3 +336,219 @@ fn every_call_in_utf16_storage(rt: HostRuntime) -> Result<(), OutOfMemory> {
     rows_hold(&rt, &mut none, UTF8, &[]);
     Ok(())
 }
+
+/// `k` letters, U+1F600 and a letter: the scalar of four bytes begins at byte `k` of its word.
+fn crosses_with<L: Ledger>(rt: &impl Abort, t: &mut VecText, k: u32, blank: Blank)
+    requires name { blank.name ≡ L.name }
+    requires parts { blank.parts ≡ L.parts }
+    requires one { blank.parts ≡ 1 }
+{
+    let mut steps = Steps::<L>::from_blank(blank);
+    let n = i64::from(k);
+    let first = scalars::start(t);
+    let last = scalars::end(t);
+    assert_eq!(rt;
+        scalars::count(t, &mut steps),
+        u64::from(k) + 2,
+        "scalars, {k}"
+    );
+    assert_eq!(rt; utf8::count(t, &mut steps), u64::from(k) + 5, "bytes, {k}");
+    assert_eq!(rt;
+        scalars::distance(t, last, first, &mut steps),
+        Ok(-n - 2),
+        "back, {k}"
+    );
+    match scalars::offset_by(t, first, n, &mut steps) {
+        Ok(wide) => {
+            assert_eq!(rt;
+                scalars::element(t, wide, &mut steps),
+                Ok('\u{1F600}'),
+                "element {k}"
+            );
+            assert_eq!(rt;
+                after(t, View::Scalars, wide, &mut steps),
+                before(t, View::Scalars, last, &mut steps),
+                "beside the last, {k}"
+            );
+            assert_eq!(rt;
+                offset_by(t, View::Scalars, last, -2, &mut steps),
+                Ok(wide.bits()),
+                "two back, {k}"
+            );
+        }
+        Err(_) => assert!(rt; false, "there are {k} letters"),
+    }
+}
+
+fn crosses(rt: &impl Abort, t: &mut VecText, k: u32) {
+    crosses_with::<Brand>(rt, t, k, Blank::new(1));
+}
+
+#[test]
+fn a_scalar_may_cross_words_at_each_byte(rt: HostRuntime) -> Result<(), OutOfMemory> {
+    let alloc = rt.alloc();
+    let rows = [
+        (0x62_8098_9FF0, 0),
+        (0x6280_989F_F061, 0),
+        (0x62_8098_9FF0_6161, 0),
+        (0x6280_989F_F061_6161, 0),
+        (0x8098_9FF0_6161_6161, 0x62),
+        (0x989F_F061_6161_6161, 0x6280),
+        (0x9FF0_6161_6161_6161, 0x62_8098),
+        (0xF061_6161_6161_6161, 0x6280_989F),
+    ];
+    let mut k: u32 = 0;
+    'rows: for (near, far) in rows {
+        let words = Vec::from_slice(alloc, &[near, far])?;
+        let mut t = text8(alloc, words, u64::from(k).saturating_add(5))?.expect(&rt, "UTF-8");
+        crosses(&rt, &mut t, k);
+        k = k.saturating_add(1);
+    }
+    Ok(())
+}
+
+/// What a walk of `n` scalars from the start of a text answers, and back from there.
+type Walk = (i64, u64);
+
+fn walks_hold_with<L: Ledger>(rt: &impl Abort, t: &mut VecText, walks: &[Walk], blank: Blank)
+    requires name { blank.name ≡ L.name }
+    requires parts { blank.parts ≡ L.parts }
+    requires one { blank.parts ≡ 1 }
+{
+    let mut steps = Steps::<L>::from_blank(blank);
+    let first = scalars::start(t);
+    'walks: for (n, word) in walks {
+        let there = Index::check(*word).expect(rt, "a word of an index");
+        assert_eq!(rt;
+            offset_by(t, View::Scalars, first, *n, &mut steps),
+            Ok(*word),
+            "{n} on"
+        );
+        assert_eq!(rt;
+            scalars::distance(t, first, there, &mut steps),
+            Ok(*n),
+            "to {n}"
+        );
+    }
+}
+
+fn walks_hold(rt: &impl Abort, t: &mut VecText, walks: &[Walk]) {
+    walks_hold_with::<Brand>(rt, t, walks, Blank::new(1));
+}
+
+/// 17 letters, U+00E9 and 9 letters: words of ASCII alone on either side.
+#[test]
+fn words_of_ascii_are_passed_at_once(rt: HostRuntime) -> Result<(), OutOfMemory> {
+    let alloc = rt.alloc();
+    let letters = 0x6161_6161_6161_6161;
+    let words = Vec::from_slice(
+        alloc,
+        &[letters, letters, 0x6161_6161_61A9_C361, 0x6161_6161],
+    )?;
+    let mut t = text8(alloc, words, 28)?.expect(&rt, "UTF-8");
+    walks_hold(
+        &rt,
+        &mut t,
+        &[
+            (0, 5),
+            (7, 458757),
+            (8, 524293),
+            (9, 589829),
+            (15, 983045),
+            (16, 1048581),
+            (17, 1114117),
+            (18, 1245189),
+            (27, 1835013),
+        ],
+    );
+    Ok(())
+}
+
+fn refused_with<L: Ledger>(
+    rt: &impl Abort,
+    t: &mut VecText,
+    view: View,
+    rows: &[(u64, OutOfBounds)],
+    blank: Blank,
+)
+    requires name { blank.name ≡ L.name }
+    requires parts { blank.parts ≡ L.parts }
+    requires one { blank.parts ≡ 1 }
+{
+    let mut steps = Steps::<L>::from_blank(blank);
+    let first = start_of(t, view);
+    let outside = Index::check(u64::MAX - 255).expect(rt, "a word of an index");
+    'rows: for (word, wanted) in rows {
+        let out = Index::check(*word).expect(rt, "a word of an index");
+        assert_eq!(rt;
+            element(t, view, out, &mut steps),
+            Err(*wanted),
+            "element {word}"
+        );
+        assert_eq!(rt;
+            after(t, view, out, &mut steps),
+            Err(*wanted),
+            "after {word}"
+        );
+        assert_eq!(rt;
+            before(t, view, out, &mut steps),
+            Err(*wanted),
+            "before {word}"
+        );
+        assert_eq!(rt;
+            offset_by(t, view, out, 0, &mut steps),
+            Err(*wanted),
+            "by 0, {word}"
+        );
+        assert_eq!(rt;
+            distance(t, view, out, outside, &mut steps),
+            Err(*wanted),
+            "from {word}"
+        );
+        assert_eq!(rt;
+            distance(t, view, first, out, &mut steps),
+            Err(*wanted),
+            "to {word}"
+        );
+    }
+}
+
+fn refused(rt: &impl Abort, t: &mut VecText, view: View, rows: &[(u64, OutOfBounds)]) {
+    refused_with::<Brand>(rt, t, view, rows, Blank::new(1));
+}
+
+fn past(position: u64, high: u64) -> OutOfBounds {
+    OutOfBounds {
+        position,
+        low: 0,
+        high,
+    }
+}
+
+/// Marked for no encoding, for each, and for both: the numbers are in the unit that the index is read in.
+#[test]
+fn indices_out_of_range_are_refused(rt: HostRuntime) -> Result<(), OutOfMemory> {
+    let alloc = rt.alloc();
+    // "é😀"
+    let words = Vec::from_slice(alloc, &[0x8098_9FF0_A9C3])?;
+    let mut t = text8(alloc, words, 6)?.expect(&rt, "UTF-8");
+    let rows = [
+        (458752, past(7, 6)),
+        (458756, past(7, 6)),
+        (458764, past(7, 6)),
+        (262152, past(4, 3)),
+    ];
+    refused(&rt, &mut t, View::Scalars, &rows);
+    refused(&rt, &mut t, UTF8, &rows);
+    let words = Vec::from_slice(alloc, &[0xDE00_D83D])?;
+    let mut pair = text16(words, 2).expect(&rt, "units");
+    let rows = [
+        (196608, past(3, 2)),
+        (196616, past(3, 2)),
+        (196620, past(3, 2)),
+        (327684, past(5, 4)),
+    ];
+    refused(&rt, &mut pair, View::Scalars, &rows);
+    refused(&rt, &mut pair, UTF8, &rows);
+    Ok(())
+}

@@ -97,7 +97,8 @@ fn behind_across<T: Text, L: Ledger>(
         ≡ spot_offset view (T.storage t.old) (T.whole t.old) (T.first t.old) spot.at spot.past) }
     ensures cause { result ≡ None ↔ (spot_offset view (T.storage t.old) (T.whole t.old) (T.first t.old) spot.at spot.past < n) }
     ensures kept { t.new ≡ t.old }
-    ensures cost { steps.new ≤ steps.old + 4 * n }
+    ensures cost { steps.new ≤ steps.old + 4 * (T.end t.old - T.first t.old) }
+    ensures near { steps.new ≤ steps.old + 4 * n }
     ensures scalars { view ≡ Scalars → steps.new ≤ steps.old + 2 * n }
     ensures unread { T.marked_ascii t.old ≡ true → steps.new ≡ steps.old }
 {
@@ -131,7 +132,8 @@ pub(crate) fn behind<T: Text, L: Ledger>(
         ≡ spot_offset view (T.storage t.old) (T.whole t.old) (T.first t.old) spot.at spot.past) }
     ensures cause { result ≡ None ↔ (spot_offset view (T.storage t.old) (T.whole t.old) (T.first t.old) spot.at spot.past < n) }
     ensures kept { t.new ≡ t.old }
-    ensures cost { steps.new ≤ steps.old + 4 * n }
+    ensures cost { steps.new ≤ steps.old + 4 * (T.end t.old - T.first t.old) }
+    ensures near { steps.new ≤ steps.old + 4 * n }
     ensures scalars { view ≡ Scalars → steps.new ≤ steps.old + 2 * n }
     ensures unread { T.marked_ascii t.old ≡ true → steps.new ≡ steps.old }
 {
@@ -164,6 +166,7 @@ pub(crate) fn turn<T: Text, L: Ledger>(
         ⊎ (pos (element_count view (T.whole t.old) (T.first t.old) (T.end t.old))
         <ℤ (pos (spot_offset view (T.storage t.old) (T.whole t.old) (T.first t.old) spot.at spot.past) +ℤ n))) }
     ensures kept { t.new ≡ t.old }
+    ensures cost { steps.new ≤ steps.old + 4 * (T.end t.old - T.first t.old) }
     ensures near { steps.new ≤ steps.old + 4 * unsigned_abs n + 6 }
     ensures unread { T.marked_ascii t.old ≡ true → steps.new ≡ steps.old }
 {

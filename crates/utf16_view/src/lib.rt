@@ -4,4 +4,6 @@
 //! there. Start at `utf16.rt`. No call takes memory.
 #![tactic(auto)]
 
+#[cfg(test)]
+mod tests;
 pub mod utf16;

@@ -39,6 +39,7 @@ pub fn count<T: Text, L: Ledger>(t: &mut T, steps: &mut Steps<L>) -> u64
     ensures value { result ≡ element_count (Units Utf16) (T.whole t.old) (T.first t.old) (T.end t.old) }
     ensures kept { t.new ≡ t.old }
     ensures cost { steps.new ≤ steps.old + 2 * (T.end t.old - T.first t.old) }
+    ensures own { T.storage t.old ≡ Utf16 → steps.new ≡ steps.old }
     ensures unread { T.marked_ascii t.old ≡ true → steps.new ≡ steps.old }
 {
     calls::count(t, View::Units(Encoding::Utf16), steps)
@@ -141,7 +142,9 @@ pub fn before<T: Text, L: Ledger>(
 /// The index of the code unit `n` code units behind the one that an index is rounded down to, or before it where `n` is negative.
 ///
 /// Refused exactly where `resolve` refuses the index, with its numbers, and where that place is before the first code unit or past the
-/// end, with the place that the index is rounded down to and the text's bounds in code units of the storage.
+/// end, with the place that the index is rounded down to and the text's bounds in code units of the storage. Where the text is marked
+/// ASCII no word is read; else one pass from the index, at most four words a scalar, beside the six that the index and the answer take
+/// and those that resolving an index of the other encoding reads.
 pub fn offset_by<T: Text, L: Ledger>(
     t: &mut T,
     i: Index,
@@ -151,6 +154,8 @@ pub fn offset_by<T: Text, L: Ledger>(
     ensures there { IfOk result (IsMoved (Units Utf16) (T.storage t.old) (T.whole t.old) (T.first t.old) (T.end t.old) i n) }
     ensures refused { IfErr result (IsMoveOut (Units Utf16) (T.storage t.old) (T.whole t.old) (T.first t.old) (T.end t.old) i n) }
     ensures kept { t.new ≡ t.old }
+    ensures cost { steps.new ≤ steps.old + 2 * length (T.whole t.old) + 4 * (T.end t.old - T.first t.old) + 6 }
+    ensures pass { reads_other (T.storage t.old) i ≡ false → steps.new ≤ steps.old + 4 * (T.end t.old - T.first t.old) + 6 }
     ensures near { reads_other (T.storage t.old) i ≡ false → steps.new ≤ steps.old + 4 * unsigned_abs n + 12 }
     ensures unread { T.marked_ascii t.old ≡ true → steps.new ≡ steps.old }
 {

@@ -3,3 +3,4 @@ pub mod Telling
 pub mod Backing
 pub mod Passing
 pub mod FillingLemmas
+pub mod Running

@@ -1,3 +1,4 @@
 pub mod Filling
 pub mod Owned
 pub mod Walking
+pub mod Running

@@ -45,3 +45,19 @@ returns-clause-cause g c =
         start-mono (view_width c.args.view) b (down w b c.args.to) (down w b c.elements.at) (down-mono w b c.args.to c.elements.at now.within),
       )),
     )
+
+pub returns-then-room-from-clause-pass : goal.returns-then-room-from-clause-pass
+returns-then-room-from-clause-pass g c =
+    omega (arith, down-mono (width_in (g.T.Text.storage c.args.t.now)) (g.T.Text.whole c.args.t.now) c.args.to c.args.from c.requires.order)
+
+pub returns-else-room-from-clause-pass : goal.returns-else-room-from-clause-pass
+returns-else-room-from-clause-pass g c =
+    omega (arith, down-mono (width_in (g.T.Text.storage c.args.t.now)) (g.T.Text.whole c.args.t.now) c.args.to c.args.from c.requires.order)
+
+pub returns-clause-pass : goal.returns-clause-pass
+returns-clause-pass g c =
+    omega (
+      arith,
+      c.elements.invariant.pass,
+      down-mono (width_in (g.T.Text.storage c.args.t.now)) (g.T.Text.whole c.args.t.now) c.args.to c.elements.at c.elements.invariant.within,
+    )

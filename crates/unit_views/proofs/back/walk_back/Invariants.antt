@@ -19,6 +19,7 @@ invariant-elements g l =
       boundary : start w b (down w b l.at) ≡ l.at;
       counted : start v b (down w b l.at) + l.reached ≡ start v b (down w b l.from);
       inside : l.room < l.reached → (l.at < l.from) × (start v b (down w b l.at) + (l.reached - l.room) < start v b (suc (down w b l.at)));
+      pass : l.steps + 4 * down w b l.at ≤ l.fn.steps + 4 * down w b l.from;
       cost : l.steps ≤ l.fn.steps + 4 * l.reached;
       capped : l.steps ≤ l.fn.steps + 4 * l.room;
       scalars : l.view ≡ Scalars → l.steps ≤ l.fn.steps + 2 * l.reached;

@@ -1,0 +1,304 @@
+//! What no clause says: what the calls answer at texts written out by hand, over storage of either encoding.
+ghost use Rattle.std.specs.Prelude.{◌≡◌, ◌+◌, ◌*◌, ◌<◌, ◌≤◌, IfOk, length};
+ghost use Rattle.text_spec.specs.Packed.{byte_of, bytes_of};
+
+use crate::utf16;
+use index_words::Index;
+use std::alloc::Global;
+use std::marker::Brand;
+use std::process::Abort;
+use std::sync::ledger::{Blank, Ledger};
+use text_spec::{Encoding, OutOfMemory};
+use unit_views::{scalars, utf8};
+use word_units::{OutOfBounds, Steps, VecText};
+
+/// Byte `p` of words.
+fn held_byte(words: &[u64], p: u64) -> u8
+    requires { p < 8 * length words.now }
+    ensures { result ≡ byte_of words.now p }
+{
+    let word = words[(p / 8) as usize];
+    ((word >> (8 * (p % 8))) % 256) as u8
+}
+
+/// The first `count` bytes of words.
+fn held_bytes(alloc: Global, words: &[u64], count: u64) -> Result<Vec<u8>, OutOfMemory>
+    requires { count ≤ 8 * length words.now }
+    ensures { IfOk result (λ bytes. bytes.items ≡ bytes_of words.now count) }
+{
+    let mut bytes = Vec::new(alloc);
+    for p in 0..count {
+        bytes.push(held_byte(words, p))?;
+    }
+    Ok(bytes)
+}
+
+/// The text of packed bytes, where they are UTF-8.
+fn text8(alloc: Global, words: Vec<u64>, count: u64) -> Result<Option<VecText>, OutOfMemory> {
+    if count >= 1_000_000 || count > 8 * words.len() as u64 {
+        return Ok(None);
+    }
+    let bytes = held_bytes(alloc, words.as_slice(), count)?;
+    match std::str::from_utf8(bytes.as_slice()) {
+        Ok(_) => Ok(Some(VecText::new(words, Encoding::Utf8, count))),
+        Err(_) => Ok(None),
+    }
+}
+
+/// The text of packed 16-bit units.
+fn text16(words: Vec<u64>, count: u64) -> Option<VecText> {
+    if count >= 1_000_000 || count > 4 * words.len() as u64 {
+        return None;
+    }
+    Some(VecText::new(words, Encoding::Utf16, count))
+}
+
+/// A code unit, and the word of the index behind it.
+type Row = (u16, u64);
+
+/// The word of an index that was answered.
+fn word_of(answer: Result<Index, OutOfBounds>) -> Result<u64, OutOfBounds> {
+    Ok(answer?.bits())
+}
+
+fn past(position: u64, high: u64) -> OutOfBounds {
+    OutOfBounds {
+        position,
+        low: 0,
+        high,
+    }
+}
+
+/// What every call answers at a code unit and the place behind it, which has `offset` code units before it.
+fn row_holds<L: Ledger>(
+    rt: &impl Abort,
+    t: &mut VecText,
+    here: Index,
+    row: Row,
+    offset: u32,
+    steps: &mut Steps<L>,
+) -> Index {
+    let (unit, word) = row;
+    let n = i64::from(offset);
+    let first = utf16::start(t);
+    let behind = Index::check(word).expect(rt, "a word of an index");
+    assert_eq!(rt;
+        utf16::element(t, here, steps),
+        Ok(unit),
+        "unit before {word}"
+    );
+    assert_eq!(rt;
+        word_of(utf16::after(t, here, steps)),
+        Ok(word),
+        "after, to {word}"
+    );
+    assert_eq!(rt;
+        word_of(utf16::before(t, behind, steps)),
+        Ok(here.bits()),
+        "before {word}"
+    );
+    assert_eq!(rt;
+        word_of(utf16::offset_by(t, first, n, steps)),
+        Ok(word),
+        "{n} on"
+    );
+    assert_eq!(rt;
+        word_of(utf16::offset_by(t, behind, -n, steps)),
+        Ok(first.bits()),
+        "{n} back"
+    );
+    assert_eq!(rt;
+        utf16::distance(t, behind, first, steps),
+        Ok(-n),
+        "from {word}"
+    );
+    assert_eq!(rt;
+        word_of(utf16::index_of_offset(t, u64::from(offset), steps)),
+        Ok(word),
+        "at {n}"
+    );
+    assert_eq!(rt;
+        utf16::offset_of_index(t, behind, steps),
+        Ok(u64::from(offset)),
+        "of {word}"
+    );
+    behind
+}
+
+/// What the calls refuse at a text's ends, of which `behind` is the last; it has `wanted` code units.
+fn ends_hold<L: Ledger>(
+    rt: &impl Abort,
+    t: &mut VecText,
+    behind: Index,
+    wanted: u32,
+    steps: &mut Steps<L>,
+) {
+    let first = utf16::start(t);
+    let high = behind.position();
+    let n = u64::from(wanted);
+    assert_eq!(rt; utf16::end(t).bits(), behind.bits(), "the end");
+    assert_eq!(rt; utf16::count(t, steps), n, "the count");
+    assert_eq!(rt;
+        utf16::element(t, behind, steps),
+        Err(past(high, high)),
+        "no unit"
+    );
+    assert_eq!(rt;
+        word_of(utf16::after(t, behind, steps)),
+        Err(past(high, high)),
+        "none after"
+    );
+    assert_eq!(rt;
+        word_of(utf16::before(t, first, steps)),
+        Err(past(0, high)),
+        "none before"
+    );
+    assert_eq!(rt;
+        word_of(utf16::index_of_offset(t, 0, steps)),
+        Ok(first.bits()),
+        "the start"
+    );
+    assert_eq!(rt;
+        word_of(utf16::index_of_offset(t, n + 1, steps)),
+        Err(past(n + 1, n)),
+        "past the end"
+    );
+    assert_eq!(rt;
+        word_of(utf16::index_of_offset(t, u64::MAX, steps)),
+        Err(past(u64::MAX, n)),
+        "far past it"
+    );
+}
+
+fn rows_hold_with<L: Ledger>(rt: &impl Abort, t: &mut VecText, rows: &[Row], blank: Blank)
+    requires name { blank.name ≡ L.name }
+    requires parts { blank.parts ≡ L.parts }
+    requires one { blank.parts ≡ 1 }
+{
+    let mut steps = Steps::<L>::from_blank(blank);
+    let mut here = utf16::start(t);
+    let mut offset: u32 = 0;
+    'rows: for row in rows {
+        offset = offset.saturating_add(1);
+        here = row_holds(rt, t, here, *row, offset, &mut steps);
+    }
+    ends_hold(rt, t, here, offset, &mut steps);
+}
+
+/// The code units of a text, each with the index behind it.
+fn rows_hold(rt: &impl Abort, t: &mut VecText, rows: &[Row]) {
+    rows_hold_with::<Brand>(rt, t, rows, Blank::new(1));
+}
+
+/// The same text in both storages, an empty one, and lone halves at both ends.
+#[test]
+fn every_offset_has_its_index_and_back(rt: HostRuntime) -> Result<(), OutOfMemory> {
+    let alloc = rt.alloc();
+    // "aé€😀"
+    let words = Vec::from_slice(alloc, &[0x9FF0_AC82_E2A9_C361, 0x8098])?;
+    let mut bytes = text8(alloc, words, 10)?.expect(&rt, "UTF-8");
+    rows_hold(
+        &rt,
+        &mut bytes,
+        &[
+            (0x61, 65541),
+            (0xE9, 196613),
+            (0x20AC, 393221),
+            (0xD83D, 409604),
+            (0xDE00, 655365),
+        ],
+    );
+    let words = Vec::from_slice(alloc, &[0xD83D_20AC_00E9_0061, 0xDE00])?;
+    let mut units = text16(words, 5).expect(&rt, "units");
+    rows_hold(
+        &rt,
+        &mut units,
+        &[
+            (0x61, 65545),
+            (0xE9, 131081),
+            (0x20AC, 196617),
+            (0xD83D, 262152),
+            (0xDE00, 327689),
+        ],
+    );
+    // a lone second half, 'A', a lone first half
+    let words = Vec::from_slice(alloc, &[0xD800_0041_DC00])?;
+    let mut lone = text16(words, 3).expect(&rt, "units");
+    rows_hold(
+        &rt,
+        &mut lone,
+        &[(0xFFFD, 65545), (0x41, 131081), (0xFFFD, 196617)],
+    );
+    let words = Vec::from_slice(alloc, &[0])?;
+    let mut none = text8(alloc, words, 0)?.expect(&rt, "UTF-8");
+    rows_hold(&rt, &mut none, &[]);
+    Ok(())
+}
+
+/// A word 15 times, two others, and a word 15 times.
+fn framed(alloc: Global, side: u64, before: u64, behind: u64) -> Result<Vec<u64>, OutOfMemory> {
+    let mut words = Vec::new(alloc);
+    for _ in 0..15 {
+        words.push(side)?;
+    }
+    words.push(before)?;
+    words.push(behind)?;
+    for _ in 0..15 {
+        words.push(side)?;
+    }
+    Ok(words)
+}
+
+/// The counts, the index of the unit in the middle, and each offset there and back.
+fn long_holds_with<L: Ledger>(rt: &impl Abort, t: &mut VecText, middle: u64, blank: Blank)
+    requires name { blank.name ≡ L.name }
+    requires parts { blank.parts ≡ L.parts }
+    requires one { blank.parts ≡ 1 }
+{
+    let mut steps = Steps::<L>::from_blank(blank);
+    assert_eq!(rt; scalars::count(t, &mut steps), 127, "scalars");
+    assert_eq!(rt; utf16::count(t, &mut steps), 128, "UTF-16");
+    assert_eq!(rt; utf8::count(t, &mut steps), 256, "UTF-8");
+    assert_eq!(rt;
+        word_of(utf16::index_of_offset(t, 64, &mut steps)),
+        Ok(middle),
+        "64"
+    );
+    'offsets: for offset in 0..129 {
+        match utf16::index_of_offset(t, offset, &mut steps) {
+            Ok(index) => assert_eq!(rt;
+                utf16::offset_of_index(t, index, &mut steps),
+                Ok(offset),
+                "{offset}"
+            ),
+            Err(_) => assert!(rt; false, "{offset} is an offset"),
+        }
+    }
+}
+
+fn long_holds(rt: &impl Abort, t: &mut VecText, middle: u64) {
+    long_holds_with::<Brand>(rt, t, middle, Blank::new(1));
+}
+
+/// 63 times U+00E9, U+1F600, 63 times U+00E9.
+#[test]
+fn long_texts_have_every_offset(rt: HostRuntime) -> Result<(), OutOfMemory> {
+    let alloc = rt.alloc();
+    let words = framed(
+        alloc,
+        0xA9C3_A9C3_A9C3_A9C3,
+        0x9FF0_A9C3_A9C3_A9C3,
+        0xA9C3_A9C3_A9C3_8098,
+    )?;
+    let mut bytes = text8(alloc, words, 256)?.expect(&rt, "UTF-8");
+    long_holds(&rt, &mut bytes, 8273924);
+    let words = framed(
+        alloc,
+        0x00E9_00E9_00E9_00E9,
+        0xD83D_00E9_00E9_00E9,
+        0x00E9_00E9_00E9_DE00,
+    )?;
+    let mut units = text16(words, 128).expect(&rt, "units");
+    long_holds(&rt, &mut units, 4194312);
+    Ok(())
+}

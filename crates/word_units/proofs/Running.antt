@@ -1,0 +1,145 @@
+-- Eight bytes of ASCII, and one scalar by its lead byte.
+use Rattle.std.proofs.Common.{◌≡◌, refl, sym, ap, subst, ◌∙◌, ℕ, zero, suc, ◌+◌, ◌-◌, ◌*◌, ◌/◌, ◌%◌, ◌^◌, ◌<◌, ◌≤◌, inl, inr, ⊎_elim, List, length, get_or, arith, Some}
+use lib.Bits.{bit_and, and_block}
+use Rattle.std.proofs.lemmas.Bool.{cases_lt, cond-true, cond-false, lt-ltb, le-ltb}
+use Rattle.std.specs.Char.{len_utf8}
+use Rattle.text_spec.specs.declared.encoding.Encoding.{Encoding}
+use Rattle.text_spec.specs.declared.encoding.Encoding.TheVariants.{Utf8, Utf16}
+use Rattle.text_spec.specs.Offsets.{len_utf16, start, down}
+use Rattle.text_spec.specs.Packed.{byte_of, denoted_text}
+use Rattle.text_spec.specs.Views.{size_in}
+use Rattle.text_spec.proofs.Widths.{len16_cases, len8_pair}
+use Rattle.word_units.specs.Running.{PassesRun}
+use Rattle.word_units.specs.Walking.{Passes}
+use Rattle.word_units.proofs.Passing.{passes}
+use Rattle.word_units.proofs.Telling.{Told8, told8, width-is}
+
+-- ---- the high bits of the bytes of a word
+abbrev mask : ℕ → ℕ
+mask zero = 0
+mask (suc n) = mask n * 256 + 128
+
+abbrev shifted : ℕ → ℕ → ℕ
+shifted w zero = w
+shifted w (suc j) = shifted (w / 256) j
+
+no_high : (r : ℕ) → r < 256 → bit_and r 128 ≡ 0 → r < 128
+no_high r small none =
+    ⊎_elim (λ l. l)
+    (λ g.
+    let split : 1 * 2 ^ 7 + (r - 128) ≡ r = omega (arith, g) in
+    let both : bit_and (1 * 2 ^ 7 + (r - 128)) 128 ≡ 1 * 2 ^ 7 + bit_and (r - 128) 0 = and_block 7 1 1 (r - 128) 0 (omega (arith, small)) (omega arith) in
+    absurd (omega (arith, ap (λ n. bit_and n 128) split, both, none)))
+    (cases_lt r 128)
+
+ascii_bytes : (n w : ℕ) → bit_and w (mask n) ≡ 0 → (j : ℕ) → j < n → shifted w j % 256 < 128
+ascii_bytes zero w none j h = absurd (omega arith)
+ascii_bytes (suc n) w none zero h =
+    let split : w / 256 * 2 ^ 8 + w % 256 ≡ w = omega arith in
+    let both : bit_and (w / 256 * 2 ^ 8 + w % 256) (mask n * 2 ^ 8 + 128) ≡ bit_and (w / 256) (mask n) * 2 ^ 8 + bit_and (w % 256) 128 =
+    and_block 8 (w / 256) (mask n) (w % 256) 128 (omega arith) (omega arith) in
+    no_high (w % 256) (omega arith) (omega (arith, ap (λ x. bit_and x (mask (suc n))) split, both, none))
+ascii_bytes (suc n) w none (suc i) h =
+    let split : w / 256 * 2 ^ 8 + w % 256 ≡ w = omega arith in
+    let both : bit_and (w / 256 * 2 ^ 8 + w % 256) (mask n * 2 ^ 8 + 128) ≡ bit_and (w / 256) (mask n) * 2 ^ 8 + bit_and (w % 256) 128 =
+    and_block 8 (w / 256) (mask n) (w % 256) 128 (omega arith) (omega arith) in
+    let high : bit_and (w / 256) (mask n) ≡ 0 = omega (arith, ap (λ x. bit_and x (mask (suc n))) split, both, none) in
+    ascii_bytes n (w / 256) high i (omega arith)
+
+-- a byte of a word without high bits
+ascii_byte : (w : ℕ) → bit_and w 0x8080808080808080 ≡ 0 → (j : ℕ) → j < 8 → w / 2 ^ (8 * j) % 256 < 128
+ascii_byte w none zero h = omega (arith, ascii_bytes 8 w none 0 (omega arith))
+ascii_byte w none (suc zero) h = omega (arith, ascii_bytes 8 w none 1 (omega arith))
+ascii_byte w none (suc (suc zero)) h = omega (arith, ascii_bytes 8 w none 2 (omega arith))
+ascii_byte w none (suc (suc (suc zero))) h = omega (arith, ascii_bytes 8 w none 3 (omega arith))
+ascii_byte w none (suc (suc (suc (suc zero)))) h = omega (arith, ascii_bytes 8 w none 4 (omega arith))
+ascii_byte w none (suc (suc (suc (suc (suc zero))))) h = omega (arith, ascii_bytes 8 w none 5 (omega arith))
+ascii_byte w none (suc (suc (suc (suc (suc (suc zero)))))) h = omega (arith, ascii_bytes 8 w none 6 (omega arith))
+ascii_byte w none (suc (suc (suc (suc (suc (suc (suc zero))))))) h = omega (arith, ascii_bytes 8 w none 7 (omega arith))
+ascii_byte w none (suc (suc (suc (suc (suc (suc (suc (suc j)))))))) h = absurd (omega arith)
+
+-- ---- how many UTF-16 units a scalar has, by its bytes
+pub units_by_width : (c units : ℕ) → (len_utf8 c ≡ 4 → units ≡ 2) → (len_utf8 c < 4 → units ≡ 1) → len_utf8 c ≤ 4 → units ≡ len_utf16 c
+units_by_width c units pair one most =
+    ⊎_elim
+    (λ low.
+    let few : len_utf8 c < 4 =
+    ⊎_elim (λ (a : c < 128). let e : len_utf8 c ≡ 1 = cond-true _ _ _ (lt-ltb c 128 a) in omega arith)
+    (λ (a : 128 ≤ c). ⊎_elim (λ (d : c < 2048). let e : len_utf8 c ≡ 2 = cond-false _ _ _ (le-ltb c 128 a) ∙ cond-true _ _ _ (lt-ltb c 2048 d) in omega arith)
+    (λ (d : 2048 ≤ c). let e : len_utf8 c ≡ 3 = cond-false _ _ _ (le-ltb c 128 a) ∙ cond-false _ _ _ (le-ltb c 2048 d) ∙ cond-true _ _ _ (lt-ltb c 65536 low.0) in omega arith)
+    (cases_lt c 2048)) (cases_lt c 128) in
+    one few ∙ sym low.1)
+    (λ high. pair (len8_pair c high.1) ∙ sym high.1)
+    (len16_cases c)
+
+-- ---- one scalar
+pub one_run : (e : Encoding) (b : List ℕ) (at most next units : ℕ) → Passes e b at next units → PassesRun e b at most next units 1
+one_run e b at most next units p = record {
+  number = p.number;
+  boundary = p.boundary;
+  other = p.other;
+  ahead = p.ahead;
+  within = p.within;
+  some = p.some;
+  size = inl refl;
+}
+
+module _ (e : Encoding) (ws : List ℕ) (n : ℕ) (b : List ℕ) (is8 : e ≡ Utf8) (long : n ≡ size_in e b) (denotes : denoted_text e ws n ≡ Some b) where
+  pub lead_run : (at most word lead width units : ℕ) → at < size_in Utf8 b → start len_utf8 b (down len_utf8 b at) ≡ at
+      → word ≡ get_or ws (at / 8) 0 → lead ≡ word / 2 ^ (8 * (at % 8)) % 256
+      → (lead < 128 → width ≡ 1) → (128 ≤ lead → lead < 224 → width ≡ 2) → (224 ≤ lead → lead < 240 → width ≡ 3) → (240 ≤ lead → width ≡ 4)
+      → (width ≡ 4 → units ≡ 2) → (width < 4 → units ≡ 1) → PassesRun Utf8 b at most (at + width) units 1
+  lead_run at most word lead width units inside boundary here is w1 w2 w3 w4 pair one =
+      let told = told8 e ws n b at is8 long denotes inside boundary in
+      let c = get_or b (down len_utf8 b at) 0 in
+      let byte : lead ≡ byte_of ws at = is ∙ ap (λ w. w / 2 ^ (8 * (at % 8)) % 256) here in
+      let wide : width ≡ len_utf8 c = width-is ws at c lead told.stands byte width w1 w2 w3 w4 in
+      one_run Utf8 b at most (at + width) units
+      (passes Utf8 b at (at + width) units inside boundary (ap (λ k. at + k) wide)
+      (units_by_width c units (λ h. pair (wide ∙ h)) (λ h. one (omega (arith, wide, h))) told.few))
+
+  -- ---- eight scalars of ASCII
+  module _ (at word : ℕ) (fits : at + 8 ≤ size_in Utf8 b) (first : at % 8 ≡ 0) (here : word ≡ get_or ws (at / 8) 0) (none : bit_and word 0x8080808080808080 ≡ 0)
+      (boundary : start len_utf8 b (down len_utf8 b at) ≡ at) where
+    record RunAt (j p : ℕ) : Type 0 where
+      pub number : down len_utf8 b p ≡ down len_utf8 b at + j
+      pub begins : start len_utf8 b (down len_utf8 b p) ≡ p
+      pub units : start len_utf16 b (down len_utf8 b p) ≡ start len_utf16 b (down len_utf8 b at) + j
+
+    run_at : (j p : ℕ) → j ≤ 8 → p ≡ at + j → RunAt j p
+    run_at zero p h is =
+        let same : at ≡ p = omega arith in
+        subst (RunAt 0) same (record { number = omega arith; begins = boundary; units = omega arith })
+    run_at (suc j) p h is =
+        let q = at + j in
+        let before = run_at j q (omega arith) refl in
+        let inside : q < size_in Utf8 b = omega (arith, fits) in
+        let told = told8 e ws n b q is8 long denotes inside before.begins in
+        let c = get_or b (down len_utf8 b q) 0 in
+        let place : q / 8 ≡ at / 8 = omega (arith, first) in
+        let offset : q % 8 ≡ j = omega (arith, first) in
+        let byte : byte_of ws q ≡ word / 2 ^ (8 * j) % 256 =
+        ap (λ k. get_or ws k 0 / 2 ^ (8 * (q % 8)) % 256) place ∙ ap (λ w. w / 2 ^ (8 * (q % 8)) % 256) (sym here) ∙ ap (λ k. word / 2 ^ (8 * k) % 256) offset in
+        let few : byte_of ws q < 128 = omega (arith, byte, ascii_byte word none j (omega arith)) in
+        let one = told.stands.one few in
+        let small : c < 65536 = omega (arith, one.1, few) in
+        let thin : len_utf16 c ≡ 1 = cond-true _ _ _ (lt-ltb c 65536 small) in
+        let step = passes Utf8 b q p 1 inside before.begins (omega (arith, is, one.0)) (sym thin) in
+        record {
+          number = omega (arith, step.number, before.number);
+          begins = step.boundary;
+          units = omega (arith, step.other, before.units);
+        }
+
+    pub ascii_run : (most : ℕ) → 8 ≤ most → PassesRun Utf8 b at most (at + 8) 8 8
+    ascii_run most room =
+        let run = run_at 8 (at + 8) (omega arith) refl in
+        record {
+          number = run.number;
+          boundary = run.begins;
+          other = run.units;
+          ahead = omega arith;
+          within = fits;
+          some = omega arith;
+          size = inr (refl, refl, refl, room);
+        }

@@ -1,0 +1,75 @@
+ghost use Rattle.std.specs.Prelude.{◌≡◌, ◌+◌, ◌<◌, ◌≤◌};
+ghost use Rattle.std.specs.Char.{len_utf8};
+ghost use Rattle.text_spec.specs.declared.encoding.Encoding.TheVariants.{Utf8};
+ghost use Rattle.text_spec.specs.Offsets.{start, down};
+ghost use Rattle.text_spec.specs.Views.{width_in, size_in};
+ghost use Rattle.word_units.specs.Running.{PassesRun};
+
+use crate::packing::{byte_in, width_of_lead};
+use crate::steps::Steps;
+use crate::text::Text;
+use crate::walk::pass_scalar;
+use std::sync::ledger::Ledger;
+use text_spec::Encoding;
+
+/// The high bit of each byte of a word: none is set where the eight bytes are ASCII.
+const HIGH_BITS: u64 = 0x8080_8080_8080_8080;
+
+/// What one word of UTF-8 tells: the eight scalars of a word of ASCII, where there is place for them, or else one scalar.
+fn pass_bytes<T: Text, L: Ledger>(
+    t: &mut T,
+    at: u64,
+    most: u64,
+    steps: &mut Steps<L>,
+) -> (u64, u64, u64)
+    requires encoding { T.storage t.old ≡ Utf8 }
+    requires inside { at < size_in Utf8 (T.whole t.old) }
+    requires fits { at + most ≤ size_in Utf8 (T.whole t.old) }
+    requires boundary { start len_utf8 (T.whole t.old) (down len_utf8 (T.whole t.old) at) ≡ at }
+    ensures passes { PassesRun Utf8 (T.whole t.old) at most result.0 result.1 result.2 }
+    ensures kept { t.new ≡ t.old }
+    ensures cost { steps.new ≡ steps.old + 1 }
+{
+    let _count = t.count();
+    let word = t.word(at / 8, steps);
+    if most >= 8 && at % 8 == 0 && word & HIGH_BITS == 0 {
+        return (at + 8, 8, 8);
+    }
+    let width = width_of_lead(byte_in(word, at));
+    (at + width as u64, units_of_width(width), 1)
+}
+
+/// How many units of UTF-16 a scalar takes whose UTF-8 takes `width` bytes (The Unicode Standard, section 3.9, D91, D92).
+fn units_of_width(width: u32) -> u64
+    ensures pair { width ≡ 4 → result ≡ 2 }
+    ensures one { width < 4 → result ≡ 1 }
+{
+    if width == 4 { 2 } else { 1 }
+}
+
+/// Where what is passed from the boundary `at` on ends, how many code units of the other encoding it takes, and how many scalars it is.
+///
+/// It is one scalar or, where `most` is at least 8, eight scalars of ASCII that fill a word of UTF-8. `at` is a scalar boundary of
+/// the storage below its end, and `at + most` isn't past that, in code units. One word is read, and in UTF-16 storage at most two.
+pub fn pass_run<T: Text, L: Ledger>(
+    t: &mut T,
+    at: u64,
+    most: u64,
+    steps: &mut Steps<L>,
+) -> (u64, u64, u64)
+    requires inside { at < size_in (T.storage t.old) (T.whole t.old) }
+    requires fits { at + most ≤ size_in (T.storage t.old) (T.whole t.old) }
+    requires boundary { start (width_in (T.storage t.old)) (T.whole t.old) (down (width_in (T.storage t.old)) (T.whole t.old) at) ≡ at }
+    ensures passes { PassesRun (T.storage t.old) (T.whole t.old) at most result.0 result.1 result.2 }
+    ensures kept { t.new ≡ t.old }
+    ensures cost { steps.new ≤ steps.old + 2 }
+    ensures bytes { T.storage t.old ≡ Utf8 → steps.new ≡ steps.old + 1 }
+{
+    match t.encoding() {
+        Encoding::Utf8 => pass_bytes(t, at, most, steps),
+        Encoding::Utf16 => {
+            let (next, units) = pass_scalar(t, at, steps);
+            (next, units, 1)
+        }
+    }
+}
