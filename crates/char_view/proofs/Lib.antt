@@ -1,0 +1,5 @@
+pub mod Cuts
+pub mod Parts
+pub mod Chunks
+pub mod Stepping
+pub mod Indexing

@@ -1,0 +1,82 @@
+use Rattle.std.proofs.Common.{◌≡◌, sym, ap, subst, ◌∙◌, ◌+◌, ◌-◌, ◌<◌, ◌≤◌, ⊎_elim, arith}
+use Rattle.std.proofs.lemmas.Bool.{cases_lt}
+use Rattle.std.proofs.lemmas.Str.{len_utf8_bounds}
+use Rattle.std.specs.Prelude.{slice_index}
+use Rattle.std.specs.Char.{len_utf8}
+use Rattle.unicode_segmentation.specs.Cursor.{IsChunkOf}
+use Rattle.text_spec.specs.Offsets.{start, down}
+use Rattle.text_spec.specs.Views.{width_in, part}
+use Rattle.text_spec.proofs.Walk.{start-zero}
+use Rattle.char_view.specs.Places.{IsPlace, own_bytes, own_number}
+use Rattle.char_view.proofs.Chunks.{cut_of}
+use Rattle.char_view.proofs.piece.piece_before.Goals as goal
+
+pub overflow_sub-offset : goal.overflow_sub-offset
+overflow_sub-offset g c =
+    let place = c.requires.place in
+    let filled = c.fill_backward-size.ensures in
+    let cut = cut_of _ _ _ _ _ _ _ place.text filled.piece filled.within place.high in
+    omega (arith, cut.sum, place.offset_is, filled.piece.size, filled.size)
+
+pub returns-clause-piece : goal.returns-clause-piece
+returns-clause-piece g c =
+    let place = c.requires.place in
+    let filled = c.fill_backward-size.ensures in
+    let cut = cut_of _ _ _ _ _ _ _ place.text filled.piece filled.within place.high in
+    let e = g.T.Text.storage c.args.t.now in
+    let b = g.T.Text.whole c.args.t.now in
+    let first = g.T.Text.first c.args.t.now in
+    let end = g.T.Text.end c.args.t.now in
+    let at : start len_utf8 (part b first end) (own_number e b first c.fill_backward-size.result.1) ≡ c.args.at.offset - c.fill_backward-size.result.0 =
+    omega (arith, cut.sum, place.offset_is, filled.piece.size, filled.size) in
+    record {
+      chunk = subst (IsChunkOf (own_bytes b first end) _) at cut.chunk;
+      utf8 = cut.utf8;
+      fits = filled.fits;
+      long = omega (arith, filled.piece.size, filled.size);
+    }
+
+pub returns-clause-place : goal.returns-clause-place
+returns-clause-place g c =
+    let place = c.requires.place in
+    let filled = c.fill_backward-size.ensures in
+    let cut = cut_of _ _ _ _ _ _ _ place.text filled.piece filled.within place.high in
+    let e = g.T.Text.storage c.args.t.now in
+    let b = g.T.Text.whole c.args.t.now in
+    let first = g.T.Text.first c.args.t.now in
+    let end = g.T.Text.end c.args.t.now in
+    let at : start len_utf8 (part b first end) (own_number e b first c.fill_backward-size.result.1) ≡ c.args.at.offset - c.fill_backward-size.result.0 =
+    omega (arith, cut.sum, place.offset_is, filled.piece.size, filled.size) in
+    subst (λ o. IsPlace e b first end o c.fill_backward-size.result.1) at cut.place
+
+pub returns-clause-end : goal.returns-clause-end
+returns-clause-end g c =
+    let place = c.requires.place in
+    let filled = c.fill_backward-size.ensures in
+    let cut = cut_of _ _ _ _ _ _ _ place.text filled.piece filled.within place.high in
+    omega (arith, cut.sum, place.offset_is, filled.piece.size, filled.size)
+
+pub returns-clause-some : goal.returns-clause-some
+returns-clause-some g c = λ some.
+    let place = c.requires.place in
+    let filled = c.fill_backward-size.ensures in
+    let r = c.fill_backward-size.result in
+    let cut = cut_of _ _ _ _ _ _ _ place.text filled.piece filled.within place.high in
+    let e = g.T.Text.storage c.args.t.now in
+    let b = g.T.Text.whole c.args.t.now in
+    let low = start (width_in e) b (g.T.Text.first c.args.t.now) in
+    ⊎_elim
+    (λ (h : low < r.1). omega (arith, filled.most h, len_utf8_bounds (slice_index b (down (width_in e) b r.1 - 1))))
+    (λ (h : r.1 ≤ low).
+    let same : r.1 ≡ low = omega (arith, h, filled.within) in
+    let none : own_number e b (g.T.Text.first c.args.t.now) r.1 ≡ 0 = omega (arith, ap (down (width_in e) b) same, place.text.low_number) in
+    omega (
+      arith,
+      ap (start len_utf8 (part b (g.T.Text.first c.args.t.now) (g.T.Text.end c.args.t.now))) none,
+      start-zero len_utf8 (part b (g.T.Text.first c.args.t.now) (g.T.Text.end c.args.t.now)),
+      cut.sum,
+      place.offset_is,
+      some,
+      filled.piece.size,
+      filled.size,
+    )) (cases_lt low r.1)

@@ -1,0 +1,4 @@
+pub mod Characters
+pub mod Answers
+pub mod Places
+pub mod Walks

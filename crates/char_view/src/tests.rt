@@ -1,0 +1,368 @@
+//! The walk in pieces beside the plain program, which asks `unicode_segmentation` for a whole text, over storage of either encoding;
+//! and rows worked out by hand.
+ghost use Rattle.std.specs.Prelude.{◌≡◌, ◌+◌, ◌*◌, ◌<◌, ◌≤◌, IfOk, length};
+ghost use Rattle.text_spec.specs.Packed.{byte_of, bytes_of};
+
+use crate::characters;
+use index_words::Index;
+use std::alloc::Global;
+use std::marker::Brand;
+use std::process::Abort;
+use std::sync::ledger::{Blank, Ledger};
+use text_spec::{Encoding, OutOfMemory};
+use unicode_segmentation::UnicodeSegmentation;
+use word_units::{OutOfBounds, Steps, VecText};
+
+/// Byte `p` of words.
+fn held_byte(words: &[u64], p: u64) -> u8
+    requires { p < 8 * length words.now }
+    ensures { result ≡ byte_of words.now p }
+{
+    let word = words[(p / 8) as usize];
+    ((word >> (8 * (p % 8))) % 256) as u8
+}
+
+/// The first `count` bytes of words.
+fn held_bytes(alloc: Global, words: &[u64], count: u64) -> Result<Vec<u8>, OutOfMemory>
+    requires { count ≤ 8 * length words.now }
+    ensures { IfOk result (λ bytes. bytes.items ≡ bytes_of words.now count) }
+{
+    let mut bytes = Vec::new(alloc);
+    for p in 0..count {
+        bytes.push(held_byte(words, p))?;
+    }
+    Ok(bytes)
+}
+
+/// The text of packed bytes, where they are UTF-8.
+fn text8(alloc: Global, words: Vec<u64>, count: u64) -> Result<Option<VecText>, OutOfMemory> {
+    if count >= 1_000_000 || count > 8 * words.len() as u64 {
+        return Ok(None);
+    }
+    let bytes = held_bytes(alloc, words.as_slice(), count)?;
+    match std::str::from_utf8(bytes.as_slice()) {
+        Ok(_) => Ok(Some(VecText::new(words, Encoding::Utf8, count))),
+        Err(_) => Ok(None),
+    }
+}
+
+/// The text of packed 16-bit units.
+fn text16(words: Vec<u64>, count: u64) -> Option<VecText> {
+    if count >= 1_000_000 || count > 4 * words.len() as u64 {
+        return None;
+    }
+    Some(VecText::new(words, Encoding::Utf16, count))
+}
+
+/// Words of eight bytes.
+fn pack8(alloc: Global, text: &str) -> Result<Vec<u64>, OutOfMemory> {
+    let mut words = Vec::new(alloc);
+    for group in text.as_bytes().chunks(8) {
+        let mut word: u64 = 0;
+        for byte in group.iter().rev() {
+            word = (word << 8) | u64::from(*byte);
+        }
+        words.push(word)?;
+    }
+    Ok(words)
+}
+
+/// Words of four units, and how many units there are.
+fn pack16(alloc: Global, text: &str) -> Result<(Vec<u64>, u64), OutOfMemory> {
+    let mut units = Vec::new(alloc);
+    for unit in text.encode_utf16() {
+        units.push(unit)?;
+    }
+    let mut words = Vec::new(alloc);
+    for group in units.as_slice().chunks(4) {
+        let mut word: u64 = 0;
+        for unit in group.iter().rev() {
+            word = (word << 16) | u64::from(*unit);
+        }
+        words.push(word)?;
+    }
+    let count = units.len() as u64;
+    Ok((words, count))
+}
+
+/// Where the Characters of a text begin and the last one ends, in bytes and in units: the plain program.
+fn plain_bounds(alloc: Global, text: &str) -> Result<(Vec<u64>, Vec<u64>), OutOfMemory> {
+    let mut bytes = Vec::new(alloc);
+    let mut units = Vec::new(alloc);
+    let mut byte: u64 = 0;
+    let mut unit: u64 = 0;
+    bytes.push(byte)?;
+    units.push(unit)?;
+    for piece in text.graphemes(true) {
+        byte = byte.saturating_add(piece.len() as u64);
+        unit = unit.saturating_add(piece.encode_utf16().count() as u64);
+        bytes.push(byte)?;
+        units.push(unit)?;
+    }
+    Ok((bytes, units))
+}
+
+/// The word of the index of boundary `k`.
+fn wanted(bounds: &[u64], k: u32, encoding: Encoding) -> u64 {
+    let mark: u64 = match encoding {
+        Encoding::Utf8 => 7,
+        Encoding::Utf16 => 11,
+    };
+    let from = bounds.get(k as usize).copied().unwrap_or(0);
+    let to = bounds
+        .get(k.saturating_add(1) as usize)
+        .copied()
+        .unwrap_or(from);
+    let length = to.saturating_sub(from);
+    let stride = if length > 63 { 0 } else { length };
+    from.saturating_mul(65536)
+        .saturating_add(stride.saturating_mul(256))
+        .saturating_add(mark)
+}
+
+/// The word of an index, or for a refusal ten times its place and one.
+fn word_of(answer: Result<Index, OutOfBounds>) -> u64 {
+    match answer {
+        Ok(index) => index.bits(),
+        Err(out) => out.position.saturating_mul(10).saturating_add(1),
+    }
+}
+
+/// The words that the calls answer for a place: the floor, the one before and behind, the two bounds, and moves from the start and back.
+fn words_at<L: Ledger>(t: &mut VecText, position: u64, by: i64, steps: &mut Steps<L>) -> [u64; 7] {
+    let start = characters::start(t, steps);
+    let Some(index) = Index::check(position.saturating_mul(65536)) else {
+        return [0; 7];
+    };
+    let (low, high) = match characters::element(t, index, steps) {
+        Ok((low, high)) => (low.bits(), high.bits()),
+        Err(_) => (1, 1),
+    };
+    [
+        word_of(characters::floor(t, index, steps)),
+        word_of(characters::before(t, index, steps)),
+        word_of(characters::after(t, index, steps)),
+        low,
+        high,
+        word_of(characters::offset_by(t, start, by, steps)),
+        word_of(characters::offset_by(t, index, by.wrapping_neg(), steps)),
+    ]
+}
+
+/// The same by the plain program, for a place that is rounded down to boundary `k`.
+fn plain_words(bounds: &[u64], k: u32, encoding: Encoding) -> [u64; 7] {
+    let last = bounds.len().saturating_sub(1);
+    let here = wanted(bounds, k, encoding);
+    let next = wanted(bounds, k.saturating_add(1), encoding);
+    let start = wanted(bounds, 0, encoding);
+    let refused = (here / 65536).saturating_mul(10).saturating_add(1);
+    let inside = (k as usize) < last;
+    [
+        here,
+        if k > 0 {
+            wanted(bounds, k.saturating_sub(1), encoding)
+        } else {
+            refused
+        },
+        if inside { next } else { refused },
+        if inside { here } else { 1 },
+        if inside { next } else { 1 },
+        here,
+        start,
+    ]
+}
+
+/// The number of the boundary that a place is rounded down to.
+fn floor_of(bounds: &[u64], position: u64) -> u32 {
+    let mut k: u32 = 0;
+    for bound in bounds.iter().skip(1) {
+        if *bound <= position {
+            k = k.saturating_add(1);
+        }
+    }
+    k
+}
+
+/// Compares the calls with the plain program at each place of a text.
+fn check_with<L: Ledger>(
+    rt: &impl Abort,
+    t: &mut VecText,
+    bounds: &[u64],
+    encoding: Encoding,
+    name: &str,
+    blank: Blank,
+)
+    requires name { blank.name ≡ L.name }
+    requires parts { blank.parts ≡ L.parts }
+    requires one { blank.parts ≡ 1 }
+{
+    let mut steps = Steps::<L>::from_blank(blank);
+    let last = bounds.len().saturating_sub(1) as u64;
+    let end = bounds.last().copied().unwrap_or(0);
+    assert_eq!(rt; characters::count(t, &mut steps), last, "{name}");
+    assert_eq!(rt;
+        characters::start(t, &mut steps).bits(),
+        wanted(bounds, 0, encoding),
+        "{name}"
+    );
+    assert_eq!(rt;
+        characters::end(t).bits(),
+        wanted(bounds, floor_of(bounds, end), encoding),
+        "{name}"
+    );
+    for position in 0..end.saturating_add(1) {
+        let k = floor_of(bounds, position);
+        let got = words_at(t, position, i64::from(k), &mut steps);
+        assert_eq!(rt;
+            got,
+            plain_words(bounds, k, encoding),
+            "{name} at {position}"
+        );
+    }
+}
+
+fn check_text(rt: &impl Abort, t: &mut VecText, bounds: &[u64], encoding: Encoding, name: &str) {
+    check_with::<Brand>(rt, t, bounds, encoding, name, Blank::new(1));
+}
+
+/// A text in both encodings.
+fn check(rt: &impl Abort, alloc: Global, text: &str) -> Result<(), OutOfMemory> {
+    let (bytes, units) = plain_bounds(alloc, text)?;
+    let words = pack8(alloc, text)?;
+    let mut utf8 = text8(alloc, words, text.len() as u64)?.expect(rt, "{text:?} is UTF-8");
+    check_text(rt, &mut utf8, bytes.as_slice(), Encoding::Utf8, text);
+    let (words, count) = pack16(alloc, text)?;
+    let mut utf16 = text16(words, count).expect(rt, "there are so many units");
+    check_text(rt, &mut utf16, units.as_slice(), Encoding::Utf16, text);
+    Ok(())
+}
+
+/// `count` times a piece behind a front, and an end.
+fn repeated(
+    alloc: Global,
+    front: &str,
+    piece: &str,
+    count: u32,
+    end: &str,
+) -> Result<String, OutOfMemory> {
+    let mut text = String::from_str(alloc, front)?;
+    for _ in 0..count {
+        text.push_str(piece)?;
+    }
+    text.push_str(end)?;
+    Ok(text)
+}
+
+#[test]
+fn pieces_agree_with_the_whole(rt: HostRuntime) -> Result<(), OutOfMemory> {
+    let alloc = rt.alloc();
+    for text in [
+        "",
+        "a",
+        "ab\r\n\r\n\n\rc",
+        "각각\u{1100}\u{1161}\u{11A8}\u{1100}\u{1100}\u{1161}ᄀ",
+        "🇩🇪🇫🇷",
+        "x🇩🇪🇫🇷🇩",
+        "👨\u{200D}👩\u{200D}👧",
+        "👍🏽👍🏿✊🏻",
+        "❤\u{FE0F}❤\u{FE0E}1\u{FE0F}\u{20E3}",
+        "\u{0600}\u{0601}1\u{0600}",
+        "क्षि नमस्ते",
+        "e\u{301}\u{FFFD}\u{10FFFF}\u{301}",
+    ] {
+        check(&rt, alloc, text)?;
+    }
+    Ok(())
+}
+
+#[test]
+fn characters_lie_over_the_edges_of_pieces(rt: HostRuntime) -> Result<(), OutOfMemory> {
+    let alloc = rt.alloc();
+    for unit in [
+        "🇩🇪🇫🇷",
+        "👨\u{200D}👩\u{200D}👧",
+        "e\u{301}\u{301}",
+        "\r\n",
+        "क्षि",
+        "\u{1100}\u{1161}\u{11A8}",
+    ] {
+        for pad in 0..65 {
+            let text = repeated(alloc, "", "x", pad, unit)?;
+            check(&rt, alloc, text.as_str())?;
+        }
+    }
+    Ok(())
+}
+
+#[test]
+fn marks_and_flags_in_any_number(rt: HostRuntime) -> Result<(), OutOfMemory> {
+    let alloc = rt.alloc();
+    for count in 1..67 {
+        let text = repeated(alloc, "e", "\u{301}", count, "x")?;
+        check(&rt, alloc, text.as_str())?;
+        let text = repeated(alloc, "é", "\u{301}", count, "")?;
+        check(&rt, alloc, text.as_str())?;
+        let text = repeated(alloc, "", "🇩", count, "x")?;
+        check(&rt, alloc, text.as_str())?;
+    }
+    Ok(())
+}
+
+/// The number of Characters, and the words of the start, of the index behind it and of the one before the end.
+fn row_with<L: Ledger>(t: &mut VecText, blank: Blank) -> (u64, u64, u64, u64)
+    requires name { blank.name ≡ L.name }
+    requires parts { blank.parts ≡ L.parts }
+    requires one { blank.parts ≡ 1 }
+{
+    let mut steps = Steps::<L>::from_blank(blank);
+    let start = characters::start(t, &mut steps);
+    let end = characters::end(t);
+    (
+        characters::count(t, &mut steps),
+        start.bits(),
+        word_of(characters::after(t, start, &mut steps)),
+        word_of(characters::before(t, end, &mut steps)),
+    )
+}
+
+fn row(t: &mut VecText) -> (u64, u64, u64, u64) {
+    row_with::<Brand>(t, Blank::new(1))
+}
+
+#[test]
+fn rows_worked_out_by_hand(rt: HostRuntime) -> Result<(), OutOfMemory> {
+    let alloc = rt.alloc();
+    // A front, how many combining acute accents follow it, and the answers in UTF-8 and in UTF-16 storage.
+    for (front, count, in8, in16) in [
+        (
+            "🇩🇪🇫🇷",
+            0,
+            (2, 2055, 526343, 526343),
+            (2, 1035, 263179, 263179),
+        ),
+        (
+            "👨\u{200D}👩\u{200D}👧",
+            0,
+            (1, 4615, 1179655, 4615),
+            (1, 2059, 524299, 2059),
+        ),
+        (
+            "e",
+            31,
+            (1, 16135, 4128775, 16135),
+            (1, 8203, 2097163, 8203),
+        ),
+        ("e", 32, (1, 7, 4259847, 7), (1, 8459, 2162699, 8459)),
+        ("a", 200, (1, 7, 26279943, 7), (1, 11, 13172747, 11)),
+        ("", 0, (0, 7, 1, 1), (0, 11, 1, 1)),
+    ] {
+        let text = repeated(alloc, front, "\u{301}", count, "")?;
+        let words = pack8(alloc, text.as_str())?;
+        let mut utf8 = text8(alloc, words, text.len() as u64)?.expect(&rt, "it is UTF-8");
+        assert_eq!(&rt; row(&mut utf8), in8, "{text}");
+        let (words, units) = pack16(alloc, text.as_str())?;
+        let mut utf16 = text16(words, units).expect(&rt, "there are so many units");
+        assert_eq!(&rt; row(&mut utf16), in16, "{text}");
+    }
+    Ok(())
+}
