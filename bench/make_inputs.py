@@ -2,6 +2,7 @@
 """Writes the inputs of the bench into a folder: usage: make_inputs.py FOLDER"""
 import json
 import random
+import struct
 import sys
 
 PIECES = [
@@ -47,12 +48,14 @@ def one_load():
     return value + "\n"
 
 
-def questions():
-    """A text of 60 KB, then 200 lines of 1,000 places by UTF-16 offset."""
+def questions(by_units):
+    """A text of 60 KB, loaded as a string or by its UTF-16 units, then 200 lines of 1,000 places by UTF-16 offset."""
     text = mixed_text(60_000)
-    units = len(text.encode("utf-16-le")) // 2
+    packed = text.encode("utf-16-le")
+    units = len(packed) // 2
     draw = random.Random(1)
-    lines = [line({"load": "doc", "text": text})]
+    content = {"units": list(struct.unpack(f"<{units}H", packed))} if by_units else {"text": text}
+    lines = [line({"load": "doc", **content})]
     for _ in range(200):
         lines.append(line({"on": "doc", "do": [{"at": draw.randrange(units)} for _ in range(1000)]}))
     return "\n".join(lines) + "\n"
@@ -62,7 +65,8 @@ folder = sys.argv[1]
 for name, text in (
     ("small_loads", small_loads(4_000_000)),
     ("one_load", one_load()),
-    ("questions", questions()),
+    ("questions", questions(False)),
+    ("questions_units", questions(True)),
     ("small_loads_twice", small_loads(8_000_000)),
 ):
     with open(f"{folder}/{name}.jsonl", "w", encoding="utf-8") as out:

@@ -78,7 +78,7 @@ command_in value = option_and_then (λ members.
 -- which ops are built
 abbrev pub is_built_op : Op → Bool
 is_built_op (op.At offset) = true
-is_built_op (op.Place offset) = false
+is_built_op (op.Place offset) = true
 is_built_op (op.Slice a b) = true
 is_built_op (op.Edit a b with) = false
 is_built_op (op.Count view) = false
@@ -90,7 +90,7 @@ are_built_ops (o ∷ ops) = is_built_op o && are_built_ops ops
 
 abbrev pub is_built_content : Content → Bool
 is_built_content (content.Text text) = true
-is_built_content (content.Units units) = false
+is_built_content (content.Units units) = true
 is_built_content (content.Raw bytes) = false
 is_built_content (content.Literal number) = false
 

@@ -9,12 +9,13 @@ fn is_built_op(op: &Op) -> bool
     ensures { result ≡ is_built_op op.now }
 {
     match op {
-        Op::At(_) | Op::Slice(_, _) | Op::All => true,
-        Op::Place(_) | Op::Edit { .. } | Op::Count(_) => false,
+        Op::At(_) | Op::Place(_) | Op::Slice(_, _) | Op::All => true,
+        Op::Edit { .. } | Op::Count(_) => false,
     }
 }
 
-fn are_built_ops(ops: &[Op]) -> bool
+/// Whether each of the ops is built.
+pub fn are_built_ops(ops: &[Op]) -> bool
     ensures { result ≡ are_built_ops ops.now }
 {
     for op in ops {
@@ -30,7 +31,7 @@ pub fn is_built(command: &Command) -> bool
     ensures { result ≡ is_built command.now }
 {
     match command {
-        Command::Load { what, .. } => matches!(what, Content::Text(_)),
+        Command::Load { what, .. } => matches!(what, Content::Text(_) | Content::Units(_)),
         Command::On { ops, .. } => are_built_ops(ops.as_slice()),
         Command::Copy { .. }
         | Command::Drop { .. }

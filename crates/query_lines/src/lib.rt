@@ -17,6 +17,7 @@ mod tests;
 mod values;
 mod write;
 
+pub use built::are_built_ops;
 pub use command::{Command, Content, JobLine, LineError};
 pub use listed::{Bytes, JobLines, JobReplies, Listed, OpReplies, Ops, Units};
 pub use op::{Op, View};

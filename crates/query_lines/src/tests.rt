@@ -27,6 +27,7 @@ fn push_bytes(out: &mut String, bytes: &Bytes) -> Result<(), AllocError> {
 fn push_op(out: &mut String, op: &Op) -> Result<(), AllocError> {
     match op {
         Op::At(offset) => write!(out, " at {offset}"),
+        Op::Place(offset) => write!(out, " place {offset}"),
         Op::Slice(a, b) => write!(out, " slice {a} {b}"),
         Op::All => write!(out, " text"),
         _ => write!(out, " (an op that isn't built)"),
@@ -40,6 +41,14 @@ fn push_ops(out: &mut String, ops: &[Op]) -> Result<(), AllocError> {
     Ok(())
 }
 
+fn push_units(out: &mut String, units: &[u16]) -> Result<(), AllocError> {
+    write!(out, " units")?;
+    for unit in units {
+        write!(out, " {unit}")?;
+    }
+    Ok(())
+}
+
 fn push_command(out: &mut String, command: &Command) -> Result<(), AllocError> {
     match command {
         Command::Load {
@@ -49,6 +58,14 @@ fn push_command(out: &mut String, command: &Command) -> Result<(), AllocError> {
             write!(out, "load")?;
             push_bytes(out, name)?;
             push_bytes(out, text)
+        }
+        Command::Load {
+            name,
+            what: Content::Units(units),
+        } => {
+            write!(out, "load")?;
+            push_bytes(out, name)?;
+            push_units(out, units.as_slice())
         }
         Command::On { name, ops } => {
             write!(out, "on")?;
@@ -110,7 +127,10 @@ fn lines_are_read_by_the_rows_of_the_table(rt: HostRuntime) -> Result<(), Fail> 
         ),
         ("{\"load\":\"a\",\"bytes\":[]}", "not built"),
         ("{\"load\":\"a\",\"bytes\":[0,255]}", "not built"),
-        ("{\"load\":\"a\",\"units\":[0,65535]}", "not built"),
+        (
+            "{\"load\":\"a\",\"units\":[0,55296,65535]}",
+            "load a units 0 55296 65535",
+        ),
         ("{\"load\":\"a\",\"literal\":9}", "not built"),
         ("{\"copy\":\"a\",\"from\":\"b\"}", "not built"),
         ("{\"drop\":\"a\"}", "not built"),
@@ -122,7 +142,7 @@ fn lines_are_read_by_the_rows_of_the_table(rt: HostRuntime) -> Result<(), Fail> 
         ),
         (
             "{\"on\":\"a\",\"do\":[{\"at\":0},{\"place\":{\"utf8\":3}}]}",
-            "not built",
+            "on a at 0 place 3",
         ),
         (
             "{\"on\":\"a\",\"do\":[{\"edit\":[0,1],\"with\":\"x\"}]}",

@@ -7,7 +7,8 @@ use Rattle.std.specs.declared.alloc.Global.{Global}
 use Rattle.std.specs.FinMap as finite
 use Rattle.std.specs.Str.{bytes_eq}
 use Rattle.std.specs.BTreeMap.{BTreeMap, get_by_text, is_at}
-use Rattle.std.specs.Map.{lookup}
+use Rattle.std.specs.Map.{lookup, set_value}
+use Rattle.std.proofs.lemmas.Map.Steps.{set_value_same}
 use Rattle.std.proofs.lemmas.Cmp.{eq_by_cmp_equiv}
 use Rattle.std.proofs.lemmas.Map.Text.{is_eq-slice_cmp}
 use Rattle.str_value.specs.Meaning.{Meaning}
@@ -80,3 +81,8 @@ below_limit m name room none =
     ltb-true (finite.len (held m.entries)) 256
     (second_true (is_some (finite.get (held m.entries) name)) (nat_lt (finite.len (held m.entries)) 256) room
     (ap is_some (get-held m name ∙ ap (option_map (λ (v : Meaning). v.text)) none)))
+
+-- what a look-up lent is written back as it was
+pub held-same : (m n : Values) (test : String Global → Bool) (w : Meaning) → n.entries ≡ set_value test m.entries w → lookup test m.entries ≡ Some w
+    → held n.entries ≡ held m.entries
+held-same m n test w set found = ap held (set ∙ set_value_same test m.entries w found)

@@ -1,6 +1,6 @@
 -- What a command is answered, and what the names stand for afterwards.
 use Rattle.std.specs.Prelude.{ℕ, List, length, chars, if◌then◌else◌, Option, Some, None}
-use Rattle.text_spec.specs.Text.{utf8, utf16}
+use Rattle.text_spec.specs.Text.{utf8, utf16, repair}
 use Rattle.query_lines.specs.declared.command.Command.{Command}
 use Rattle.query_lines.specs.declared.command.Command.TheVariants as command
 use Rattle.query_lines.specs.declared.command.Content.TheVariants as content
@@ -36,6 +36,7 @@ on_reply name ops (Some text) = results_or_not_built (op_replies text 0 ops)
 -- the reply to a command that is built; every other one gives `not built`
 abbrev pub built_reply : State → Command → Reply × State
 built_reply state (command.Load name (content.Text bytes)) = load_reply state name (chars bytes)
+built_reply state (command.Load name (content.Units units)) = load_reply state name (repair units)
 built_reply state (command.On name ops) = (on_reply name ops (text_of state name), state)
 built_reply state _ = (not_built, state)
 

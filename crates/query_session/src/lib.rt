@@ -7,8 +7,8 @@
 #![tactic(auto)]
 
 mod answers;
-mod boundary;
 mod names;
+mod place;
 mod session;
 #[cfg(test)]
 mod tests;

@@ -1,9 +1,14 @@
 //! The values by their names.
-ghost use Rattle.std.specs.Prelude.{◌≡◌, ◌<◌, IfOk, OnOk, OnErr, IsTrue, string_bytes};
+ghost use Rattle.std.specs.Prelude.{◌≡◌, ◌<◌, ℕ, List, true, All, Some, None, IfOk, IfSome, MatchOption, OnOk, OnErr, IsTrue, string_bytes};
+ghost use Rattle.query_lines.specs.Commands.{are_built_ops};
+ghost use Rattle.query_lines.specs.Replies.{IsShownOp};
+ghost use Rattle.query_session.specs.Answers.{op_replies};
 ghost use Rattle.query_session.specs.State.{has_room};
 ghost use Rattle.std.specs.Option.{option_copied, option_map};
 ghost use Rattle.std.specs.FinMap as finite;
 
+use crate::answers::answer_all;
+use query_lines::{Op, OpReplies};
 use std::alloc::Global;
 use std::collections::BTreeMap;
 use std::marker::Model;
@@ -53,6 +58,28 @@ impl<'h> Names<'h> {
         ensures { option_map (λ s. s.now.text) result ≡ finite.get self.now name.now }
     {
         self.values.get(name)
+    }
+
+    // The answers to ops on the text of a name, or nothing where the name isn't in use.
+    pub(crate) fn answer(
+        &mut self,
+        alloc: Global,
+        name: &str,
+        ops: &[Op],
+    ) -> Result<Option<OpReplies>, OutOfMemory>
+        requires { are_built_ops ops.now ≡ true }
+        ensures answers { IfOk result (λ found. MatchOption found (finite.get self.old name.now ≡ None)
+            (λ replies. (text : List ℕ) × (finite.get self.old name.now ≡ Some text) × (op_replies text 0 ops.now ≡ Some replies))) }
+        ensures shown { IfOk result (λ found. IfSome found (λ replies. All IsShownOp replies)) }
+        ensures kept { self.new ≡ self.old }
+    {
+        match self.values.get_mut(name) {
+            Some(value) => {
+                let replies = answer_all(alloc, value, ops)?;
+                Ok(Some(replies))
+            }
+            None => Ok(None),
+        }
     }
 
     // A value under the name. The one that it had is released, and the new one is dropped where memory is wanting.

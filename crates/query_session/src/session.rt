@@ -1,16 +1,15 @@
 //! The session and its calls.
-ghost use Rattle.std.specs.Prelude.{◌≡◌, ◌<◌, ◌≤◌, true, false, is_err, chars, string_bytes, IfOk, OnErr, IsUtf8};
+ghost use Rattle.std.specs.Prelude.{◌≡◌, ◌<◌, ◌≤◌, true, false, is_err, length, chars, string_bytes, IfOk, IsTrue, OnOk, OnErr, IsUtf8};
 ghost use Rattle.std.specs.FinMap as finite;
-ghost use Rattle.query_lines.specs.WellFormed.{IsWellFormed, IsWellFormedContent, IsName, IsShortText};
+ghost use Rattle.text_spec.specs.Text.{utf8, repair};
+ghost use Rattle.query_lines.specs.WellFormed.{IsWellFormed, IsWellFormedContent, IsName, IsShortText, text_limit};
 ghost use Rattle.query_lines.specs.Replies.{IsShown};
-ghost use Rattle.query_lines.specs.Commands.{are_built_ops};
-ghost use Rattle.query_session.specs.Answers.{op_replies};
-ghost use Rattle.query_session.specs.Reply.{reply_to, load_reply, results_or_not_built};
+ghost use Rattle.query_session.specs.Reply.{reply_to, load_reply, counts_of};
+ghost use Rattle.query_session.specs.State as state;
 
-use crate::answers::{all_built, answer_all};
 use crate::names::Names;
 use outside::Gate;
-use query_lines::{Bytes, Command, Content, Op, Ops, Refusal, Reply};
+use query_lines::{Bytes, Command, Content, Ops, Refusal, Reply, Units, are_built_ops};
 use std::alloc::Global;
 use std::marker::Model;
 use std::thread::Threads;
@@ -154,7 +153,7 @@ fn load_content<'h>(
 {
     match what {
         Content::Text(text) => load(pass, names, alloc, name, text),
-        Content::Units(_) => Ok(not_built()),
+        Content::Units(units) => load_units(pass, names, alloc, name, units),
         Content::Raw(_) => Ok(not_built()),
         Content::Literal(_) => Ok(not_built()),
     }
@@ -176,10 +175,57 @@ fn load<'h>(
     ensures pass { pass.new ≡ pass.old }
 {
     let name = string_of(name);
-    if names.get(name.as_str()).is_none() && names.count() >= MAX_NAMES {
+    if !has_room(names, name.as_str()) {
         return Ok(Reply::Refused(Refusal::TooManyNames));
     }
     let value = make(pass, alloc, text.as_slice())?;
+    store(pass, names, name, value)
+}
+
+// The same for a text that UTF-16 units spell.
+fn load_units<'h>(
+    pass: &mut Pass<'h>,
+    names: &mut Names<'h>,
+    alloc: Global,
+    name: Bytes,
+    units: Units,
+) -> Result<Reply, OutOfMemory>
+    requires name { IsName name }
+    requires units { length (utf8 (repair units)) ≤ text_limit }
+    ensures reply { IfOk result (λ r. (r, names.new) ≡ load_reply names.old name (repair units)) }
+    ensures shown { IfOk result IsShown }
+    ensures kept { OnErr result (names.new ≡ names.old) }
+    ensures pass { pass.new ≡ pass.old }
+{
+    let name = string_of(name);
+    if !has_room(names, name.as_str()) {
+        return Ok(Reply::Refused(Refusal::TooManyNames));
+    }
+    let value = make_units(pass, alloc, units.as_slice())?;
+    store(pass, names, name, value)
+}
+
+// Whether a text may be stored under the name.
+fn has_room(names: &Names, name: &str) -> bool
+    ensures { result ≡ state.has_room names.now name.now }
+{
+    names.get(name).is_some() || names.count() < MAX_NAMES
+}
+
+// Stores a value under a name for which there is room.
+fn store<'h>(
+    pass: &mut Pass<'h>,
+    names: &mut Names<'h>,
+    name: String,
+    value: Str<'h>,
+) -> Result<Reply, OutOfMemory>
+    requires { IsTrue (state.has_room names.old (string_bytes name)) }
+    ensures reply { IfOk result (λ r. r ≡ counts_of value.entry.text) }
+    ensures shown { IfOk result IsShown }
+    ensures stored { OnOk result (names.new ≡ state.store names.old (string_bytes name) value.entry.text) }
+    ensures kept { OnErr result (names.new ≡ names.old) }
+    ensures pass { pass.new ≡ pass.old }
+{
     let lengths = value.lengths();
     names.put(pass, name, value)?;
     Ok(Reply::Counts {
@@ -190,28 +236,20 @@ fn load<'h>(
 }
 
 // Does ops on the text of a name.
-fn on(names: &Names, alloc: Global, name: Bytes, ops: Ops) -> Result<Reply, OutOfMemory>
+fn on(names: &mut Names, alloc: Global, name: Bytes, ops: Ops) -> Result<Reply, OutOfMemory>
     requires { IsName name }
-    ensures reply { IfOk result (λ r. (r, names.now) ≡ reply_to names.now (Command.On name ops)) }
+    ensures reply { IfOk result (λ r. (r, names.new) ≡ reply_to names.old (Command.On name ops)) }
     ensures shown { IfOk result IsShown }
+    ensures kept { names.new ≡ names.old }
 {
-    if !all_built(ops.as_slice()) {
+    if !are_built_ops(ops.as_slice()) {
         return Ok(not_built());
     }
     let name = string_of(name);
-    match names.get(name.as_str()) {
-        Some(value) => answer_named(alloc, value, ops.as_slice()),
+    match names.answer(alloc, name.as_str(), ops.as_slice())? {
+        Some(replies) => Ok(Reply::Results(replies)),
         None => Ok(no_name(name)),
     }
-}
-
-fn answer_named(alloc: Global, value: &Str, ops: &[Op]) -> Result<Reply, OutOfMemory>
-    requires { are_built_ops ops.now ≡ true }
-    ensures reply { IfOk result (λ r. r ≡ results_or_not_built (op_replies value.now.text 0 ops.now)) }
-    ensures shown { IfOk result IsShown }
-{
-    let replies = answer_all(alloc, value, ops)?;
-    Ok(Reply::Results(replies))
 }
 
 fn no_name(name: String) -> Reply
@@ -228,6 +266,20 @@ fn make<'h>(pass: &mut Pass<'h>, alloc: Global, text: &[u8]) -> Result<Str<'h>, 
     ensures pass { pass.new ≡ pass.old }
 {
     match Str::from_utf8(alloc, pass, text) {
+        Ok(value) => Ok(value),
+        Err(MakeError::OutOfMemory) => Err(OutOfMemory),
+        Err(MakeError::NotUtf8 { .. }) => unreachable!(),
+        Err(MakeError::TooLong { .. }) => unreachable!(),
+    }
+}
+
+// The value of a text within its limit, spelled by UTF-16 units.
+fn make_units<'h>(pass: &mut Pass<'h>, alloc: Global, units: &[u16]) -> Result<Str<'h>, OutOfMemory>
+    requires { length (utf8 (repair units.now)) ≤ text_limit }
+    ensures made { IfOk result (λ s. s.text ≡ repair units.now) }
+    ensures pass { pass.new ≡ pass.old }
+{
+    match Str::from_utf16(alloc, pass, units) {
         Ok(value) => Ok(value),
         Err(MakeError::OutOfMemory) => Err(OutOfMemory),
         Err(MakeError::NotUtf8 { .. }) => unreachable!(),

@@ -56,8 +56,8 @@ fn lines_get_the_replies_worked_out_by_hand(rt: HostRuntime) -> Result<(), OutOf
             r#"{"scalars":1,"utf16":2,"utf8":4}"#,
         ),
         (
-            r#"{"on":"g","do":[{"at":1},{"at":2},{"at":3}]}"#,
-            r#"{"results":[{"utf16":0,"utf8":0,"value":128512},{"utf16":2,"utf8":4,"value":null},{"error":"out of bounds","utf16":2}]}"#,
+            r#"{"on":"g","do":[{"at":1},{"at":2},{"at":3},{"place":{"utf8":3}},{"place":{"utf8":4}},{"place":{"utf8":5}}]}"#,
+            r#"{"results":[{"utf16":0,"utf8":0,"value":128512},{"utf16":2,"utf8":4,"value":null},{"error":"out of bounds","utf16":2},{"utf16":0,"utf8":0,"value":128512},{"utf16":2,"utf8":4,"value":null},{"error":"out of bounds","utf8":4}]}"#,
         ),
         (
             r#"{"load":"t","text":"abc"}"#,
@@ -79,6 +79,47 @@ fn lines_get_the_replies_worked_out_by_hand(rt: HostRuntime) -> Result<(), OutOf
         (
             r#"{"on":"zz","do":[{"at":0}]}"#,
             r#"{"error":"no name","name":"zz"}"#,
+        ),
+    ];
+    let mut session = Session::new(rt.alloc(), Pass::none(), 1)?;
+    for (line, wanted) in rows {
+        let reply = answer(&rt, rt.alloc(), &mut session, line.as_bytes())?;
+        assert_eq!(rt; reply.as_slice(), wanted.as_bytes(), "{line}");
+    }
+    let _pass = session.end();
+    Ok(())
+}
+
+#[test]
+fn texts_of_units_get_the_replies_worked_out_by_hand(rt: HostRuntime) -> Result<(), OutOfMemory> {
+    let rows = [
+        (
+            r#"{"load":"u","units":[55296,65]}"#,
+            r#"{"scalars":2,"utf16":2,"utf8":4}"#,
+        ),
+        (
+            r#"{"on":"u","do":[{"at":0},{"at":1},{"at":2},{"at":3},{"place":{"utf8":2}},{"place":{"utf8":3}},{"place":{"utf8":5}}]}"#,
+            r#"{"results":[{"utf16":0,"utf8":0,"value":65533},{"utf16":1,"utf8":3,"value":65},{"utf16":2,"utf8":4,"value":null},{"error":"out of bounds","utf16":2},{"utf16":0,"utf8":0,"value":65533},{"utf16":1,"utf8":3,"value":65},{"error":"out of bounds","utf8":4}]}"#,
+        ),
+        (
+            r#"{"on":"u","do":[{"text":true},{"slice":[0,1]},{"slice":[1,2]},{"slice":[2,1]}]}"#,
+            r#"{"results":[{"text":"�A"},{"text":"�"},{"text":"A"},{"error":"out of bounds","utf16":2}]}"#,
+        ),
+        (
+            r#"{"load":"v","units":[55357,56832]}"#,
+            r#"{"scalars":1,"utf16":2,"utf8":4}"#,
+        ),
+        (
+            r#"{"on":"v","do":[{"at":1},{"place":{"utf8":3}},{"slice":[1,2]},{"slice":[0,1]}]}"#,
+            r#"{"results":[{"utf16":0,"utf8":0,"value":128512},{"utf16":0,"utf8":0,"value":128512},{"text":"😀"},{"text":""}]}"#,
+        ),
+        (
+            r#"{"load":"x","text":"ééééééééééééééééééééééééééééééééééééééééééééééééééééééééééééééé😀ééééééééééééééééééééééééééééééééééééééééééééééééééééééééééééééé"}"#,
+            r#"{"scalars":127,"utf16":128,"utf8":256}"#,
+        ),
+        (
+            r#"{"on":"x","do":[{"at":64},{"place":{"utf8":129}},{"at":127},{"slice":[62,65]}]}"#,
+            r#"{"results":[{"utf16":63,"utf8":126,"value":128512},{"utf16":63,"utf8":126,"value":128512},{"utf16":127,"utf8":254,"value":233},{"text":"é😀"}]}"#,
         ),
     ];
     let mut session = Session::new(rt.alloc(), Pass::none(), 1)?;

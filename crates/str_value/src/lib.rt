@@ -10,11 +10,14 @@
 
 mod error;
 mod lengths;
+mod packing;
 mod pass;
 mod small;
 mod storage;
 #[cfg(test)]
 mod tests;
+mod text;
+mod units;
 mod value;
 
 pub use error::MakeError;

@@ -2,16 +2,20 @@
 ghost use Rattle.std.specs.Prelude.{◌≡◌, ◌≢◌, ℕ, ◌<◌, ◌≤◌, ◌↔◌, true, false, length, slice_index, slice_range, chars, IfOk, IfErr, IsSome, IfSome, IsUtf8};
 ghost use Rattle.std.specs.Str.{all_scalars};
 ghost use Rattle.std.specs.Str.Lossy.{utf8_valid_len};
-ghost use Rattle.text_spec.specs.Text.{utf8, utf16};
+ghost use Rattle.text_spec.specs.Text.{utf8, utf16, repair};
 ghost use Rattle.object_words.specs.Rows.{Describes, form_of};
 ghost use Rattle.object_words.specs.Rows as rows;
-ghost use Rattle.str_value.specs.Meaning.{utf8_row};
+ghost use Rattle.text_spec.specs.Boundaries.{IsScalarBoundary};
+ghost use Rattle.text_spec.specs.Views.{width_in};
+ghost use Rattle.str_value.specs.Meaning.{utf8_row, utf16_row, storage_of};
+ghost use Rattle.str_value.specs.Meaning as meaning;
 
 use crate::error::MakeError;
 use crate::lengths::{Lengths, lengths_of};
 use crate::pass::Pass;
 use crate::small::object_bytes;
-use crate::storage::{Storage, with_bytes};
+use crate::storage::{Storage, with_units};
+use crate::units::{are_ascii, length_between, lengths_of_units, text_between};
 use object_words::{Form, Object, SMALL_CAPACITY};
 use std::alloc::Global;
 use std::marker::{Model, PhantomData};
@@ -23,20 +27,19 @@ pub const MAX_TEXT_BYTES: usize = 16_777_216;
 /// A text of Unicode scalars, of at most `MAX_TEXT_BYTES` in UTF-8.
 #[derive(Drop)]
 pub struct Str<'h> {
-    object: Object,
-    storage: Storage,
+    pub(crate) object: Object,
+    pub(crate) storage: Storage,
     heap: PhantomData<&'h u64>,
 }
 
 impl<'h> Model for Str<'h> {
-    ghost use Rattle.std.specs.Prelude.{chars};
     ghost use Rattle.str_value.specs.Meaning.{Meaning};
 
     ghost Value = { Meaning };
 
-    ghost use Rattle.str_value.specs.Stored.{held, row_of, words_of, IsStored};
+    ghost use Rattle.str_value.specs.Stored.{text_of, row_of, words_of, IsStored};
 
-    ghost view = { λ s. record { text = chars (held s.object s.storage); row = row_of s.object s.storage; words = words_of s.object s.storage } };
+    ghost view = { λ s. record { text = text_of s.object s.storage; row = row_of s.object s.storage; words = words_of s.object s.storage } };
 
     ghost invariant = { λ s. IsStored s.object s.storage };
 }
@@ -66,6 +69,33 @@ impl<'h> Str<'h> {
         }
     }
 
+    /// The value of the text that `units` spell, a surrogate without its other half as U+FFFD (ours, after Swift; pairs: the Unicode
+    /// Standard, section 3.8).
+    ///
+    /// It keeps the units as they are, in a vector of its own: no shared storage is built yet. Refused: `TooLong` exactly where the
+    /// UTF-8 of the text, with its repairs, is more than `MAX_TEXT_BYTES`, and `OutOfMemory`. One pass over the units for the lengths,
+    /// one for the mark of ASCII as far as they are ASCII, and a copy.
+    pub fn from_utf16(
+        alloc: Global,
+        pass: &mut Pass<'h>,
+        units: &[u16],
+    ) -> Result<Str<'h>, MakeError>
+        ensures text { IfOk result (λ s. s.text ≡ repair units.now) }
+        ensures row { IfOk result (λ s. s.row ≡ utf16_row units.now) }
+
+        ensures not_utf8 { (valid : ℕ) → result ≢ Err (MakeError.NotUtf8 valid) }
+        ensures too_long { (n : ℕ) → (result ≡ Err (MakeError.TooLong n)) ↔ ((n ≡ length (utf8 (repair units.now))) × (MAX_TEXT_BYTES < n)) }
+
+        ensures pass { pass.new ≡ pass.old }
+    {
+        let _ = pass;
+        let length = lengths_of_units(units).utf8;
+        if length > MAX_TEXT_BYTES as u64 {
+            return Err(MakeError::TooLong { len: length });
+        }
+        own_units(alloc, units)
+    }
+
     /// The value's two words. No memory.
     pub fn object(&self) -> Object
         ensures { Describes self.now.row result }
@@ -80,30 +110,36 @@ impl<'h> Str<'h> {
         self.object.form()
     }
 
-    /// The length of the storage in UTF-8 bytes, at most `MAX_TEXT_BYTES`. No memory, no pass over the text.
-    pub fn count(&self) -> u64
-        ensures value { result ≡ length (utf8 self.now.text) }
-        ensures scalars { all_scalars self.now.text ≡ true }
+    /// How many bytes of UTF-8 the text between two scalar boundaries takes, which are places in the storage's code units.
+    ///
+    /// One pass over the part in UTF-16 storage, and none in UTF-8 storage. No memory.
+    pub fn utf8_length(&self, low: u64, high: u64) -> u64
+        requires low { IsScalarBoundary (width_in (storage_of self.now.row)) self.now.text low }
+        requires high { IsScalarBoundary (width_in (storage_of self.now.row)) self.now.text high }
+        requires order { low ≤ high }
+        ensures value { result ≡ length (utf8 (meaning.text_between self.now low high)) }
         ensures limit { result ≤ MAX_TEXT_BYTES }
     {
-        self.object.count()
+        with_units!(self,
+            _bytes => high - low,
+            units => length_between(units, low as usize, high as usize)
+        )
     }
 
-    /// Byte `p` of the text's UTF-8, counted from 0. No memory.
-    pub fn byte(&self, p: u64) -> u8
-        requires { p < length (utf8 self.now.text) }
-        ensures { result ≡ slice_index (utf8 self.now.text) p }
-    {
-        with_bytes!(self, bytes => bytes[p as usize])
-    }
-
-    /// A copy of the text's UTF-8 from byte `low` to before byte `high`, counted from 0. It takes memory for what it copies alone.
-    pub fn copy_bytes(&self, alloc: Global, low: u64, high: u64) -> Result<Vec<u8>, OutOfMemory>
+    /// The UTF-8 of the text between two scalar boundaries, which are places in the storage's code units.
+    ///
+    /// It takes memory for what it copies alone.
+    pub fn copy_utf8(&self, alloc: Global, low: u64, high: u64) -> Result<Vec<u8>, OutOfMemory>
+        requires low { IsScalarBoundary (width_in (storage_of self.now.row)) self.now.text low }
+        requires high { IsScalarBoundary (width_in (storage_of self.now.row)) self.now.text high }
         requires order { low ≤ high }
-        requires inside { high ≤ length (utf8 self.now.text) }
-        ensures { IfOk result (λ v. v.items ≡ slice_range (utf8 self.now.text) low high) }
+        ensures value { IfOk result (λ v. v.items ≡ utf8 (meaning.text_between self.now low high)) }
+        ensures utf8 { IfOk result (λ v. IsUtf8 v.items) }
     {
-        with_bytes!(self, bytes => copy_part(alloc, bytes, low as usize, high as usize))
+        with_units!(self,
+            bytes => copy_between(alloc, bytes, low as usize, high as usize),
+            units => text_between(alloc, units, low as usize, high as usize)
+        )
     }
 
     /// The text's lengths in its three units, in one pass over it. No memory.
@@ -112,7 +148,7 @@ impl<'h> Str<'h> {
         ensures utf16 { result.utf16 ≡ length (utf16 self.now.text) }
         ensures utf8 { result.utf8 ≡ length (utf8 self.now.text) }
     {
-        with_bytes!(self, bytes => lengths_of(bytes))
+        with_units!(self, bytes => lengths_of(bytes), units => lengths_of_units(units))
     }
 
     /// Gives the value up. Its storage is free again.
@@ -176,6 +212,23 @@ fn own<'h>(alloc: Global, bytes: &[u8]) -> Result<Str<'h>, MakeError>
     })
 }
 
+// The value of UTF-16 units, in a vector of its own.
+fn own_units<'h>(alloc: Global, units: &[u16]) -> Result<Str<'h>, MakeError>
+    requires { length (utf8 (repair units.now)) ≤ MAX_TEXT_BYTES }
+    ensures text { IfOk result (λ s. s.text ≡ repair units.now) }
+    ensures row { IfOk result (λ s. s.row ≡ utf16_row units.now) }
+    ensures memory { IfErr result (λ e. e ≡ MakeError.OutOfMemory) }
+{
+    let ascii = are_ascii(units);
+    let object = Object::owned(ascii, ascii, true, units.len() as u64);
+    let copy = Vec::from_slice(alloc, units)?;
+    Ok(Str {
+        object,
+        storage: Storage::Units(copy),
+        heap: PhantomData,
+    })
+}
+
 // Whether all bytes are ASCII, a word at a time.
 fn is_ascii(bytes: &[u8]) -> bool
     ensures { result ≡ rows.is_ascii bytes.now }
@@ -183,7 +236,13 @@ fn is_ascii(bytes: &[u8]) -> bool
     bytes.is_ascii()
 }
 
-fn copy_part(alloc: Global, bytes: &[u8], low: usize, high: usize) -> Result<Vec<u8>, OutOfMemory>
+// The bytes from place `low` to before place `high`.
+fn copy_between(
+    alloc: Global,
+    bytes: &[u8],
+    low: usize,
+    high: usize,
+) -> Result<Vec<u8>, OutOfMemory>
     requires order { low ≤ high }
     requires inside { high ≤ length bytes.now }
     ensures { IfOk result (λ v. v.items ≡ slice_range bytes.now low high) }

@@ -1,0 +1,90 @@
+//! A value as a text that is read word by word.
+ghost use Rattle.std.specs.Prelude.{◌≡◌, ◌<◌, slice_index};
+ghost use Rattle.text_spec.specs.Packed.{content_words};
+ghost use Rattle.text_spec.specs.Views.{size_in};
+ghost use Rattle.str_value.specs.Meaning.{storage_of};
+
+use crate::packing::{byte_word, unit_word};
+use crate::small::object_word;
+use crate::storage::Storage;
+use crate::value::Str;
+use std::sync::ledger::Ledger;
+use text_spec::Encoding;
+use word_units::{Steps, Text};
+
+/// All of the storage is the text. Its breadcrumbs are never known: no shared storage is built yet.
+impl<'h> Text for Str<'h> {
+    ghost use Rattle.std.specs.Prelude.{false, length};
+    ghost use Rattle.object_words.specs.Rows.{ascii_of};
+    ghost use Rattle.str_value.specs.Meaning.{storage_of};
+
+    ghost storage = { λ s. storage_of s.row };
+
+    ghost words = { λ s. s.words };
+
+    ghost whole = { λ s. s.text };
+
+    ghost first = { λ s. 0 };
+
+    ghost end = { λ s. length s.text };
+
+    ghost knows_crumbs = { λ s. false };
+
+    ghost marked_ascii = { λ s. ascii_of s.row };
+
+    ghost STRIDE = { 64 };
+
+    fn stride(&self) -> usize {
+        64
+    }
+
+    fn encoding(&self) -> Encoding {
+        match self.storage {
+            Storage::Words => Encoding::Utf8,
+            Storage::Bytes(_) => Encoding::Utf8,
+            Storage::Units(_) => Encoding::Utf16,
+        }
+    }
+
+    fn count(&self) -> u64 {
+        self.object.count()
+    }
+
+    fn low(&self) -> u64 {
+        0
+    }
+
+    fn high(&self) -> u64 {
+        self.object.count()
+    }
+
+    fn word<L: Ledger>(&mut self, k: u64, steps: &mut Steps<L>) -> u64 {
+        steps.tick();
+        content_word(self, k)
+    }
+
+    fn crumbs_known(&self) -> bool {
+        false
+    }
+
+    fn crumb_word<L: Ledger>(&mut self, j: u64, steps: &mut Steps<L>) -> u64 {
+        steps.tick();
+        j
+    }
+
+    fn ascii(&self) -> bool {
+        self.object.ascii()
+    }
+}
+
+// Content word `k`, packed as it is asked for.
+fn content_word(value: &Str, k: u64) -> u64
+    requires { k < content_words (storage_of value.now.row) (size_in (storage_of value.now.row) value.now.text) }
+    ensures { result ≡ slice_index value.now.words k }
+{
+    match &value.storage {
+        Storage::Words => object_word(value.object, k),
+        Storage::Bytes(kept) => byte_word(kept.as_slice(), k as usize),
+        Storage::Units(kept) => unit_word(kept.as_slice(), k as usize),
+    }
+}
