@@ -1,9 +1,12 @@
-//! Times the crates of shared storage: histories checked, and slots published and released by one owner and by two in threads.
+//! Times the crates of shared storage: histories checked; by one owner and by two in threads, slots published and
+//! released, one slot retained and released, and one asked for its side.
 //!
 //! Standard output tells what was done and is the same in each run; standard error tells the milliseconds.
 #![tactic(auto)]
 
+mod copies;
 mod histories;
+mod looks;
 mod pairs;
 
 use anyhow::Result;
@@ -12,5 +15,9 @@ fn main(rt: HostRuntime) -> Result<()> {
     histories::check(&rt, rt.alloc(), 100_000)?;
     histories::check(&rt, rt.alloc(), 200_000)?;
     pairs::one_owner(&rt, rt.alloc(), 10_000_000)?;
-    pairs::two_owners(&rt, rt.alloc(), 5_000_000)
+    pairs::two_owners(&rt, rt.alloc(), 5_000_000)?;
+    copies::one_owner(&rt, rt.alloc(), 10_000_000)?;
+    copies::two_owners(&rt, rt.alloc(), 5_000_000)?;
+    looks::one_owner(&rt, rt.alloc(), 10_000_000)?;
+    looks::two_owners(&rt, rt.alloc(), 5_000_000)
 }

@@ -11,13 +11,13 @@ use std::time::Instant;
 use text_spec::TextList;
 
 /// The layout of the heap.
-const LAYOUT: Layout = Layout {
+pub(crate) const LAYOUT: Layout = Layout {
     capacity_words: 8192,
     slots: 256,
     credits: 4096,
 };
 
-struct Anything;
+pub(crate) struct Anything;
 
 impl Attach for Anything {
     ghost fits = { λ words side. Unit {0} };
@@ -35,7 +35,7 @@ struct Owner<'h> {
     last: u64,
 }
 
-fn stored<'h>(pass: &mut Pass<'h, Anything>, word: u64) -> Option<Ref<'h, Anything>>
+pub(crate) fn stored<'h>(pass: &mut Pass<'h, Anything>, word: u64) -> Option<Ref<'h, Anything>>
     ensures pass { pass.new.heap ≡ pass.old.heap }
     ensures reference { IfSome result (λ r. r.heap ≡ pass.old.heap) }
 {

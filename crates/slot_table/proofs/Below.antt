@@ -19,6 +19,10 @@ below-adds front all e ps p b n h =
     let l : length (all ++ e ∷ []) ≡ length all + 1 = length-append all (e ∷ []) in let t = prefix_long front all p in
     let was = b n (omega (arith, l, t, h)) in let z = below-one (length all) n (omega (arith, l, h)) in let s = times_append n ps (length all ∷ []) in omega (arith, was, z, s)
 
+-- a front that goes on
+pub below-more : (f h : List Event) (ps : List ℕ) → IsPrefix f h → Below f ps → Below h ps
+below-more f h ps p a n past = let x = prefix_long f h p in a n (omega (arith, x, past))
+
 -- two owners' places beside each other
 pub below-both : (f g h : List Event) (ps qs : List ℕ) → IsPrefix f h → IsPrefix g h → Below f ps → Below g qs → Below h (ps ++ qs)
 below-both f g h ps qs p q a b n past = let x = prefix_long f h p in let y = prefix_long g h q in

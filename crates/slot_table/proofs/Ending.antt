@@ -40,12 +40,12 @@ times-down x zero = grind (arith, nat_tests)
 times-down x (suc n) = let t = times-down x n in grind (arith, nat_tests, t)
 
 -- a list begins with others, and one stands behind
-get_or-front : (xs ys : List ℕ) (j : ℕ) → j < length xs → get_or (xs ++ ys) j 0 ≡ get_or xs j 0
+pub get_or-front : (xs ys : List ℕ) (j : ℕ) → j < length xs → get_or (xs ++ ys) j 0 ≡ get_or xs j 0
 get_or-front [] ys j h = absurd (omega arith)
 get_or-front (x ∷ xs) ys zero h = refl
 get_or-front (x ∷ xs) ys (suc j) h = get_or-front xs ys j (omega arith)
 
-get_or-behind : (xs ys : List ℕ) (j m : ℕ) → m ≡ length xs + j → get_or (xs ++ ys) m 0 ≡ get_or ys j 0
+pub get_or-behind : (xs ys : List ℕ) (j m : ℕ) → m ≡ length xs + j → get_or (xs ++ ys) m 0 ≡ get_or ys j 0
 get_or-behind [] ys j m e = let e' : m ≡ j = omega arith in ap (λ (i : ℕ). get_or ys i 0) e'
 get_or-behind (x ∷ xs) ys j zero e = absurd (omega arith)
 get_or-behind (x ∷ xs) ys j (suc m) e = get_or-behind xs ys j m (omega arith)

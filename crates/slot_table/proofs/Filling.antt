@@ -19,12 +19,12 @@ use Rattle.slot_table.proofs.Turns.{turned, total_same, slot_else, seats_after, 
 use Rattle.slot_table.proofs.Kept.{one-same, idle-is, draft_kept}
 
 -- reading a list that grew by one
-get_or-snoc : (ws : List ℕ) (x j : ℕ) → j < length ws → get_or (ws ++ x ∷ []) j 0 ≡ get_or ws j 0
+pub get_or-snoc : (ws : List ℕ) (x j : ℕ) → j < length ws → get_or (ws ++ x ∷ []) j 0 ≡ get_or ws j 0
 get_or-snoc [] x j h = absurd (omega arith)
 get_or-snoc (w ∷ ws) x zero h = refl
 get_or-snoc (w ∷ ws) x (suc j) h = get_or-snoc ws x j (omega arith)
 
-get_or-end : (ws : List ℕ) (x : ℕ) → get_or (ws ++ x ∷ []) (length ws) 0 ≡ x
+pub get_or-end : (ws : List ℕ) (x : ℕ) → get_or (ws ++ x ∷ []) (length ws) 0 ≡ x
 get_or-end [] x = refl
 get_or-end (w ∷ ws) x = get_or-end ws x
 

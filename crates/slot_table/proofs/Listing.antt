@@ -1,5 +1,5 @@
 -- Rows of literals, and reading lists of texts by number.
-use Rattle.std.proofs.Common.{◌≡◌, ℕ, zero, suc, ◌≤◌, MatchBool, Bool, true, false, List, [], ◌∷◌, ◌++◌, get_or, take, Some, None, slice_get, refl, sym, ap, ◌∙◌, arith, append_assoc, append-nil, ltb, ◌&&◌, slice_index, lt-ltb}
+use Rattle.std.proofs.Common.{◌≡◌, ℕ, zero, suc, ◌+◌, ◌<◌, ◌≤◌, length, MatchBool, Bool, true, false, List, [], ◌∷◌, ◌++◌, get_or, take, Some, None, slice_get, refl, sym, ap, ◌∙◌, arith, append_assoc, append-nil, ltb, ◌&&◌, slice_index, lt-ltb}
 use Rattle.std.proofs.lemmas.Bool.Decides.{nat_tests}
 use Rattle.std.specs.Str.{IsAscii, IsNotAscii}
 use Rattle.slot_table.specs.Literals.{is_ascii, literal_row, rows_of}
@@ -8,6 +8,11 @@ pub get_or-slice_get : (ls : List (List ℕ)) (k : ℕ) (t : List ℕ) → slice
 get_or-slice_get [] k t e = absurd (let e' : None ≡ Some t = e in cc)
 get_or-slice_get (x ∷ ls) zero t e = (let e' : Some x ≡ Some t = e in cc)
 get_or-slice_get (x ∷ ls) (suc k) t e = get_or-slice_get ls k t e
+
+pub below_listed : (ls : List (List ℕ)) (k : ℕ) (t : List ℕ) → slice_get ls k ≡ Some t → k < length ls
+below_listed [] k t e = absurd (let e' : None ≡ Some t = e in cc)
+below_listed (x ∷ ls) zero t e = omega arith
+below_listed (x ∷ ls) (suc k) t e = let h = below_listed ls k t e in omega (arith, h)
 
 pub rows_of-take : (ls : List (List ℕ)) (k : ℕ) (t : List ℕ) → slice_get ls k ≡ Some t → rows_of (take (suc k) ls) ≡ rows_of (take k ls) ++ literal_row t
 rows_of-take [] k t e = absurd (let e' : None ≡ Some t = e in cc)

@@ -1,8 +1,12 @@
 -- Where every place is one owner's, the history has that owner's events alone, in their order.
-use Rattle.std.proofs.Common.{◌≡◌, ℕ, zero, suc, ◌+◌, ◌<◌, ◌≤◌, ⊎_elim, List, [], ◌∷◌, ◌++◌, length, ltb, cond, true, Option, refl, sym, ap, ◌∙◌, subst, arith, length-append, lt-ltb}
+use Rattle.std.proofs.Common.{◌≡◌, ℕ, zero, suc, ◌+◌, ◌<◌, ◌≤◌, ⊎_elim, List, [], ◌∷◌, ◌++◌, length, set, replicate, ltb, cond, true, Option, None, refl, sym, ap, ◌∙◌, subst, arith, length-append, length-set, lt-ltb}
+use Rattle.std.proofs.lemmas.List.{length-replicate}
 use Rattle.std.proofs.lemmas.Bool.Decides.{nat_tests}
 use mathlib.Core.List.{IsPrefix}
 use Rattle.slot_model.specs.declared.event.Event.{Event}
+use Rattle.slot_model.specs.declared.layout.Layout.{Layout}
+use Rattle.slot_model.specs.History.{idle, held, at, released, side_in, Legal}
+use Rattle.slot_model.proofs.Runs.{at-set}
 use Rattle.slot_table.specs.Seats.{times, AllOnce}
 use Rattle.slot_model.specs.declared.event.Event.TheVariants.{Publish, Release, Detach}
 use Rattle.slot_table.specs.Owners.{PassSeen, RefSeen, Adds, Released}
@@ -43,10 +47,19 @@ three_events p r d first second third one two three =
     let third_is : second ++ r ∷ [] ≡ third = whole (second ++ r ∷ []) third two (omega (arith, a, b, x, y, z, three)) in
     ap (λ (es : List Event). es ++ d ∷ []) (sym third_is) ∙ (ap (λ (es : List Event). (es ++ r ∷ []) ++ d ∷ []) (sym second_is) ∙ ap (λ (es : List Event). ((es ++ p ∷ []) ++ r ∷ []) ++ d ∷ []) none)
 
+-- a slot that was published and given up has no side
+lone_side : (fits : List ℕ → List ℕ → Type 0) (k : Layout) (x : ℕ) (ws : List ℕ) (found : Option ℕ) → Legal fits k (Publish x ws ∷ Release x true ∷ Detach x found ∷ []) → found ≡ None
+lone_side fits k x ws found legal =
+    let opened = replicate k.slots idle in let first = set opened x (held 1 ws None) in
+    let sized : length opened ≡ k.slots = length-replicate k.slots idle in let below : x < length opened = subst (λ (n : ℕ). x < n) (sym sized) legal.0.0 in
+    let held_is : at first x ≡ held 1 ws None = at-set opened x (held 1 ws None) below in
+    let gone : at (set first x (released (at first x))) x ≡ released (at first x) = at-set first x (released (at first x)) (subst (λ (n : ℕ). x < n) (sym (length-set opened x (held 1 ws None))) below) in
+    legal.1.1.0.2 ∙ ap side_in (gone ∙ ap released held_is)
+
 -- A lone pass published one slot, and its only reference was given up: the history is these three events
-pub lone_history : (fits : List ℕ → List ℕ → Type 0) (p q : PassSeen) (r : RefSeen) (ws : List ℕ) → p.front ≡ [] → p.places ≡ [] → Adds fits r.heap.layout p.front [] (Publish r.slot ws) r.front r.places → Released fits p r true q → AllOnce (length q.front) q.places
-    → (found : Option ℕ) × (q.front ≡ Publish r.slot ws ∷ Release r.slot true ∷ Detach r.slot found ∷ [])
-lone_history fits p q r ws starts unplaced added released once =
+pub lone_history : (fits : List ℕ → List ℕ → Type 0) (p q : PassSeen) (r : RefSeen) (ws : List ℕ) → p.front ≡ [] → p.places ≡ [] → Adds fits r.heap.layout p.front [] (Publish r.slot ws) r.front r.places → Released fits p r true q → AllOnce (length q.front) q.places → Legal fits q.heap.layout q.front
+    → q.front ≡ Publish r.slot ws ∷ Release r.slot true ∷ Detach r.slot None ∷ []
+lone_history fits p q r ws starts unplaced added released once legal =
     let e = released.events in let mid = e.2 in let last = e.3 in let found = last.0 in let end = last.1 in
     let front_is : q.front ≡ released.front = ⊎_elim
     (λ (same : q.front ≡ p.front). absurd (let a = prefix_long released.front q.front released.fronts.second in let b : length q.front ≡ 0 = ap length (same ∙ starts) in
@@ -60,4 +73,7 @@ lone_history fits p q r ws starts unplaced added released once =
     let whole_is : q.front ≡ end.0 ++ Detach r.slot found ∷ [] = front_is ∙ end.2 in
     let first = subst (λ (es : List Event). IsPrefix es mid.0) added.2 mid.1 in
     let second = subst (λ (es : List Event). IsPrefix es end.0) mid.2 end.1 in
-    (found, whole_is ∙ three_events (Publish r.slot ws) (Release r.slot true) (Detach r.slot found) added.0 mid.0 end.0 first second (sym (ap length whole_is) ∙ three))
+    let events : q.front ≡ Publish r.slot ws ∷ Release r.slot true ∷ Detach r.slot found ∷ [] =
+    whole_is ∙ three_events (Publish r.slot ws) (Release r.slot true) (Detach r.slot found) added.0 mid.0 end.0 first second (sym (ap length whole_is) ∙ three) in
+    let none = lone_side fits q.heap.layout r.slot ws found (subst (Legal fits q.heap.layout) events legal) in
+    events ∙ ap (λ (o : Option ℕ). let es : List Event = Publish r.slot ws ∷ Release r.slot true ∷ Detach r.slot o ∷ [] in es) none

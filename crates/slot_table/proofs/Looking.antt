@@ -44,7 +44,7 @@ module _ (fits : List ℕ → List ℕ → Type 0) (k : Layout) (ls : List (List
         ),
       )
 
-  once : (s : State ℕ View) → (r : Holds fits k ls s) → (id : ℕ) (v : View) → get_elem? s.views id ≡ some v → Once k.slots v.free
+  pub once : (s : State ℕ View) → (r : Holds fits k ls s) → (id : ℕ) (v : View) → get_elem? s.views id ≡ some v → Once k.slots v.free
   once s r id v at_id x = let mine = total_at (free_on x) s.views id v at_id in dite (dec_le k.slots x)
       (λ (above : k.slots ≤ x). let none_there = r.frees_below x above in omega (arith, none_there, mine))
       (λ (h : ¬ (k.slots ≤ x)). let below : x < k.slots = lt_of_not-le h in let t = (r.slots x below).frees in let most = idle-most (at (heap_after k r.all) x) in let f : times x v.free ≤ 1 = omega (arith, t, most, mine) in subst (λ b. times x v.free ≤ cond b 1 0) (sym (lt-ltb x k.slots below)) f)

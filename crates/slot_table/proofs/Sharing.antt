@@ -23,7 +23,7 @@ times_last x [] h = absurd (omega arith)
 times_last x (f ∷ []) h = omega arith
 times_last x (f ∷ g ∷ fs) h = let tail = times_last x (g ∷ fs) (omega arith) in omega (arith, tail)
 
-times_frees : (x : ℕ) (o : Option ℕ) (fs : List ℕ) → times x (frees_of o fs) ≡ times x fs + in_option x o
+pub times_frees : (x : ℕ) (o : Option ℕ) (fs : List ℕ) → times x (frees_of o fs) ≡ times x fs + in_option x o
 times_frees x None fs = omega arith
 times_frees x (Some d) fs = omega arith
 

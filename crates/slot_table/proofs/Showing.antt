@@ -3,10 +3,13 @@ use Rattle.std.proofs.Common.{◌≡◌, ℕ, ◌+◌, ◌≤◌, Bool, List, []
 use Rattle.slot_model.specs.declared.event.Event.{Event}
 use Rattle.slot_table.specs.declared.view.View.{View}
 use Rattle.slot_table.specs.Steps.{but_last, without_draft, drafted, joined, LeftBy, found_in, freed_by, opened, opening, recorded, with_found}
-use Rattle.slot_table.specs.Owners.{HeapId, PassSeen, RefSeen, Drafted, GivesUp, Joined, Released, with_side}
+use Rattle.slot_table.specs.Owners.{HeapId, PassSeen, RefSeen, Drafted, GivesUp, Joined, Released, Retained, with_side}
 use Rattle.slot_table.specs.Ties.{IsPass, pass_seen, draft_seen, ref_seen, loose_seen}
+use mathlib.Core.List.{IsPrefix}
+use Rattle.slot_table.specs.ReferenceSteps.{without_credit, credit, paid, retaining, doubled, half, other_half}
 use Rattle.slot_table.proofs.Counting.{but_last-snoc}
-use Rattle.slot_model.specs.declared.event.Event.TheVariants.{Detach}
+use Rattle.slot_table.proofs.Fronts.{both_prefix, longer_one}
+use Rattle.slot_model.specs.declared.event.Event.TheVariants.{Retain, Detach}
 use Rattle.slot_model.specs.declared.layout.Layout.{Layout}
 use Rattle.slot_model.specs.History.{Legal}
 
@@ -65,3 +68,20 @@ was_released fits z y p q r v w o freed seen layout one_credit freed_is left joi
             freed_is ∙ as_side v.slot n,
           ),
         )
+
+-- a reference that was given a second time: a credit of the pass went to it
+pub was_retained : (fits : List ℕ → List ℕ → Type 0) (z y : HeapId) (r : RefSeen) (q : PassSeen) (v p l m s : View) (all : List Event) → ref_seen z v ≡ r → pass_seen y p ≡ q → v.layout ≡ z.layout → 2 ≤ p.credits
+    → IsPrefix (paid v (credit p)).told (paid v (credit p)).front → IsPrefix (paid v (credit p)).front all → Legal fits v.layout (all ++ Retain v.slot ∷ [])
+    → l ≡ half (doubled (recorded (paid v (credit p)) all (retaining v))) → m ≡ without_credit p → s ≡ other_half (doubled (recorded (paid v (credit p)) all (retaining v)))
+    → Retained fits r q (ref_seen z l) (pass_seen y m) (ref_seen z s)
+was_retained fits z y r q v p l m s all seen seen' layout rich tells begins legal l_is m_is s_is =
+    let each = both_prefix v.front p.front tells in let twice : View = doubled (recorded (paid v (credit p)) all (retaining v)) in
+    let here : Retained fits (ref_seen z v) (pass_seen y p) (ref_seen z (half twice)) (pass_seen y (without_credit p)) (ref_seen z (other_half twice)) = record {
+      seen = (paid v (credit p)).front;
+      fronts = record { one = longer_one v.front p.front; first = each.0; second = each.1 };
+      event = (all, begins, refl, refl, subst (λ (k : Layout). Legal fits k (all ++ Retain v.slot ∷ [])) layout legal);
+      reference_is = refl;
+      new_is = refl;
+      credits_are = omega (arith, rich);
+      pass_is = refl;
+    } in subst (λ (t : RefSeen × PassSeen × View × View × View). Retained fits t.0 t.1 (ref_seen z t.2) (pass_seen y t.3) (ref_seen z t.4)) (λ j. (seen j, seen' j, sym l_is j, sym m_is j, sym s_is j)) here

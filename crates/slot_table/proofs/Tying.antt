@@ -61,12 +61,12 @@ draft_from v fs n room credits i = record {
 pub is_draft_by : (v w : View) (slot count : ℕ) → v ≡ w → IsDraft w slot count → IsDraft v slot count
 is_draft_by v w slot count e = subst (λ (z : View). IsDraft z slot count) (sym e)
 
-pub is_ref_by : (v w : View) (slot : ℕ) (sole bare : Bool) → v ≡ w → IsRef w slot sole bare → IsRef v slot sole bare
-is_ref_by v w slot sole bare e = subst (λ (z : View). IsRef z slot sole bare) (sym e)
+pub is_ref_by : (fits : List ℕ → List ℕ → Type 0) (v w : View) (slot : ℕ) (sole bare : Bool) (side : Option ℕ) → v ≡ w → IsRef fits w slot sole bare side → IsRef fits v slot sole bare side
+is_ref_by fits v w slot sole bare side e = subst (λ (z : View). IsRef fits z slot sole bare side) (sym e)
 
 -- a draft that was published
-pub ref_from : (v : View) (slot count : ℕ) (all : List Event) (e : Event) → IsPrefix v.front all → IsDraft v slot count → IsRef (published (recorded v all e)) slot true true
-ref_from v slot count all e begins i = let words = i.count_is in let room = i.room in record {
+pub ref_from : (fits : List ℕ → List ℕ → Type 0) (v : View) (slot count : ℕ) (all : List Event) (e : Event) → IsPrefix v.front all → IsDraft v slot count → IsRef fits (published (recorded v all e)) slot true true None
+ref_from fits v slot count all e begins i = let words = i.count_is in let room = i.room in record {
   role = refl;
   slot_is = ap number_in i.draft_is;
   below = i.below;
@@ -77,6 +77,10 @@ ref_from v slot count all e begins i = let words = i.count_is in let room = i.ro
   light = refl;
   sole_is = refl;
   bare_is = refl;
+  side_is = refl;
+  bare_sole = λ _. refl;
+  bare_alone = λ _. refl;
+  side_known = tt;
   below_front = below-adds v.front all e v.places begins i.below_front;
 }
 
@@ -97,14 +101,14 @@ pass_joined v w fs gs room credits more first second once most o i = let mine = 
     }
 
 -- a reference that was given up leaves a share with its credit, and with the slots that it freed
-pub loose_after : (fits : List ℕ → List ℕ → Type 0) (v w : View) (slot : ℕ) (sole bare : Bool) (o : Option ℕ) → LeftBy fits v w o → IsRef v slot sole bare → IsLoose w (freed_by slot o) 1
-loose_after fits v w slot sole bare None left i = subst (λ (z : View). IsLoose z [] 1) (sym left.3) record {
+pub loose_after : (fits : List ℕ → List ℕ → Type 0) (v w : View) (slot : ℕ) (sole bare : Bool) (side : Option ℕ) (o : Option ℕ) → LeftBy fits v w o → IsRef fits v slot sole bare side → IsLoose w (freed_by slot o) 1
+loose_after fits v w slot sole bare side None left i = subst (λ (z : View). IsLoose z [] 1) (sym left.3) record {
   left = inl (refl, i.no_draft);
   credits_are = i.one_credit;
   free_is = ap (λ (d : Option ℕ). frees_of d v.free) i.no_draft ∙ i.no_slots;
   below_front = below-adds v.front left.0 _ v.places left.1 i.below_front;
 }
-loose_after fits v w slot sole bare (Some n) left i =
+loose_after fits v w slot sole bare side (Some n) left i =
     let first = left.1 in let then = left.2 in
     let middle : Below left.0.front left.0.places = subst (λ (z : View). Below z.front z.places) (sym first.3) (below-adds v.front first.0 _ v.places first.1 i.below_front) in
     let below = below-adds left.0.front then.0 (opening n left.0) left.0.places then.1 middle in

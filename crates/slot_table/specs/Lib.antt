@@ -2,6 +2,9 @@ pub mod Addresses
 pub mod Literals
 pub mod Seats
 pub mod Holdings
-pub mod Steps
 pub mod Owners
+pub mod Steps
+pub mod ReferenceSteps
 pub mod Ties
+pub mod Laws
+pub mod Outcomes

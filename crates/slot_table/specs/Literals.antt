@@ -35,6 +35,21 @@ abbrev pub rows_of : List (List ℕ) → List ℕ
 rows_of [] = []
 rows_of (t ∷ ts) = literal_row t ++ rows_of ts
 
+-- how many words stand before the row of literal n
+abbrev pub row_start : List (List ℕ) → ℕ → ℕ
+row_start [] n = 0
+row_start (t ∷ ts) zero = 0
+row_start (t ∷ ts) (suc n) = length (literal_row t) + row_start ts n
+
+-- where each row begins, the first of them at `from`
+abbrev pub row_starts : ℕ → List (List ℕ) → List ℕ
+row_starts from [] = []
+row_starts from (t ∷ ts) = from ∷ row_starts (from + length (literal_row t)) ts
+
+-- the words of literal n
+abbrev pub row_words : List (List ℕ) → ℕ → List ℕ
+row_words ls n = literal_row (get_or ls n [])
+
 -- the most bytes of a literal
 abbrev pub most_bytes : Layout → ℕ
 most_bytes k = 8 * (k.capacity_words - 1)

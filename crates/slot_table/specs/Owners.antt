@@ -1,11 +1,11 @@
 -- What contracts see of a heap and of its owners, and what its calls do to them. No seat, view or word of the table is named.
-use Rattle.std.specs.Prelude.{◌≡◌, ℕ, ◌+◌, ◌<◌, ◌⊎◌, MatchBool, List, [], ◌∷◌, ◌++◌, length, Bool, Option, Some, None}
+use Rattle.std.specs.Prelude.{◌≡◌, ℕ, ◌+◌, ◌<◌, ◌⊎◌, MatchBool, List, [], ◌∷◌, ◌++◌, length, Bool, true, false, Option, Some, None}
 use mathlib.Core.List.{IsPrefix}
 use Rattle.atomic_table.specs.Seated.{TableId}
 use Rattle.slot_model.specs.declared.event.Event.{Event}
-use Rattle.slot_model.specs.declared.event.Event.TheVariants.{Release, Detach}
+use Rattle.slot_model.specs.declared.event.Event.TheVariants.{Retain, Release, Install, Detach}
 use Rattle.slot_model.specs.declared.layout.Layout.{Layout}
-use Rattle.slot_model.specs.History.{idle, at, Legal, heap_after}
+use Rattle.slot_model.specs.History.{Heap, idle, at, words_of, Legal, heap_after}
 use Rattle.slot_table.specs.Seats.{AllOnce}
 
 -- which heap it is, with its layout and the UTF-8 bytes of its literals
@@ -41,6 +41,17 @@ pub record RefSeen : Type 0 where
   pub bare : Bool
   pub side : Option ℕ
   pub side_words : List ℕ
+
+-- the words of the side, if there is one
+abbrev pub side_words_in : Heap → Option ℕ → List ℕ
+side_words_in h None = []
+side_words_in h (Some d) = words_of (at h d)
+
+-- A literal, with the words of its row: a count word, then its UTF-8 bytes eight to a word. It has no places
+pub record LiteralSeen : Type 0 where
+  pub heap : HeapId
+  pub front : List Event
+  pub words : List ℕ
 
 -- the whole pass of a heap that was just opened
 abbrev pub opened_pass : HeapId → List ℕ → PassSeen
@@ -124,6 +135,51 @@ pub record Ends (fits : List ℕ → List ℕ → Type 0) (e : Ended) : Type 0 w
   pub legal : Legal fits e.layout e.history
   pub idle_at_end : (x : ℕ) → x < e.slots → at (heap_after e.layout e.history) x ≡ idle
   pub each_once : AllOnce (length e.history) e.places
+
+-- A second reference s is given beside r, which is r' then, and a credit of the pass goes to it. The event comes after all that the reference and the pass had seen
+pub record Retained (fits : List ℕ → List ℕ → Type 0) (r : RefSeen) (p : PassSeen) (r' : RefSeen) (q : PassSeen) (s : RefSeen) : Type 0 where
+  pub seen : List Event
+  pub fronts : IsLonger r.front p.front seen
+  pub event : Adds fits r.heap.layout seen r.places (Retain r.slot) r'.front r'.places
+  pub reference_is : r' ≡ record r { front = r'.front; places = r'.places; sole = false; bare = false }
+  pub new_is : s ≡ record r' { places = [] }
+  pub credits_are : p.credits ≡ q.credits + 1
+  pub pass_is : q ≡ record p { credits = q.credits }
+
+-- the slot that is the side after an install of slot d, its words by the heap h, and the slots that come back
+abbrev pub offered_side : ℕ → Option ℕ → ℕ
+offered_side d None = d
+offered_side d (Some e) = e
+
+abbrev pub offered_words : Heap → List ℕ → Option ℕ → List ℕ
+offered_words h ws None = ws
+offered_words h ws (Some e) = words_of (at h e)
+
+abbrev pub offered_back : ℕ → Option ℕ → List ℕ
+offered_back d None = []
+offered_back d (Some e) = d ∷ []
+
+-- A draft d is offered as the side of r's slot, where `found` was before. The event comes after all that the reference and the draft had seen, and the pass sees it
+pub record Offered (fits : List ℕ → List ℕ → Type 0) (r : RefSeen) (d : DraftSeen) (p : PassSeen) (found : Option ℕ) (r' : RefSeen) (q : PassSeen) : Type 0 where
+  pub seen : List Event
+  pub fronts : IsLonger r.front d.front seen
+  pub event : Adds fits r.heap.layout seen (r.places ++ d.places) (Install r.slot d.slot d.written found) r'.front r'.places
+  pub reference_is : r' ≡ record r { front = r'.front; places = r'.places; bare = false; side = Some (offered_side d.slot found); side_words = offered_words (heap_after r.heap.layout r'.front) d.written found }
+  pub passes : IsLonger p.front r'.front q.front
+  pub pass_is : q ≡ record p { front = q.front; free = p.free ++ offered_back d.slot found; credits = p.credits + 1 }
+
+-- the slots that come with a side
+abbrev pub side_slots : Option ℕ → List ℕ
+side_slots None = []
+side_slots (Some d) = d ∷ []
+
+-- A sole reference's slot loses its side, which `found` was. The event comes after all that the pass and the reference had seen, and its place is with the pass, as the reference's are
+pub record TakenAway (fits : List ℕ → List ℕ → Type 0) (r : RefSeen) (p : PassSeen) (found : Option ℕ) (r' : RefSeen) (q : PassSeen) : Type 0 where
+  pub seen : List Event
+  pub fronts : IsLonger p.front r.front seen
+  pub event : Adds fits r.heap.layout seen (p.places ++ r.places) (Detach r.slot found) q.front q.places
+  pub reference_is : r' ≡ record r { front = q.front; places = []; bare = true; side = None; side_words = [] }
+  pub pass_is : q ≡ record p { front = q.front; places = q.places; free = p.free ++ side_slots found }
 
 -- what a draft leaves: its events, its slot and its credit
 abbrev pub dropped_draft : DraftSeen → PassSeen

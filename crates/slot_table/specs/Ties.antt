@@ -1,19 +1,20 @@
 -- How an owner's value goes with its seat: the invariants of heaps, passes, drafts and references.
-use Rattle.std.specs.Prelude.{◌≡◌, ℕ, ◌+◌, ◌<◌, ◌≤◌, ◌⊎◌, Bool, List, [], length, Some, None}
+use Rattle.std.specs.Prelude.{◌≡◌, ℕ, ◌+◌, ◌<◌, ◌≤◌, ◌⊎◌, Bool, true, List, [], length, Option, Some, None, IfSome}
 use Rattle.atomic_table.specs.Seated.{TableId}
 use Rattle.atomic_table.specs.declared.shared.Seat.{Seat}
 use Rattle.slot_model.specs.declared.layout.Layout.{Layout}
 use Rattle.slot_table.specs.declared.view.View.{View}
 use Rattle.slot_table.specs.declared.view.Role.TheVariants.{Share, Draft, Reference}
 use Rattle.slot_table.specs.Addresses.{LayoutOk, size_of}
-use Rattle.slot_table.specs.Literals.{rows_of}
+use Rattle.slot_table.specs.Literals.{rows_of, row_start, row_starts, row_words}
 use Rattle.slot_table.specs.Seats.{Once}
 use Rattle.slot_table.specs.Holdings.{Below}
 use Rattle.slot_table.specs.Steps.{frees_of, IsAll}
-use Rattle.slot_table.specs.Owners.{HeapId, PassSeen, DraftSeen, RefSeen, Ended}
+use Rattle.slot_table.specs.ReferenceSteps.{IsSideKnown}
+use Rattle.slot_table.specs.Owners.{HeapId, PassSeen, DraftSeen, RefSeen, LiteralSeen, Ended}
 
 -- the heap's table has the words of its layout and literals, and no slot
-pub record IsHeap (z : HeapId) (key_layout : Layout) (key_literals : List (List ℕ)) (count : ℕ) : Type 0 where
+pub record IsHeap (z : HeapId) (key_layout : Layout) (key_literals : List (List ℕ)) (count : ℕ) (starts : List ℕ) : Type 0 where
   pub layout_is : key_layout ≡ z.layout
   pub literals_are : key_literals ≡ z.literals
   pub words_are : z.table.words ≡ size_of z.layout + length (rows_of z.literals)
@@ -21,6 +22,8 @@ pub record IsHeap (z : HeapId) (key_layout : Layout) (key_literals : List (List 
   pub laid : LayoutOk z.layout
   pub counted : count ≡ length z.literals
   pub few : length z.literals ≤ 256
+  pub few_words : length (rows_of z.literals) ≤ 268435456
+  pub starts_are : starts ≡ row_starts 0 z.literals
 
 -- the seat is one of the heap's table, and holds no slot of the table
 pub record IsTied (z : HeapId) (s : Seat ℕ View) : Type 0 where
@@ -60,7 +63,7 @@ pub record IsDraft (v : View) (slot count : ℕ) : Type 0 where
   pub no_slots : v.free ≡ []
   pub below_front : Below v.front v.places
 
-pub record IsRef (v : View) (slot : ℕ) (sole bare : Bool) : Type 0 where
+pub record IsRef (fits : List ℕ → List ℕ → Type 0) (v : View) (slot : ℕ) (sole bare : Bool) (side : Option ℕ) : Type 0 where
   pub role : v.role ≡ Reference
   pub slot_is : v.slot ≡ slot
   pub below : slot < v.layout.slots
@@ -71,7 +74,16 @@ pub record IsRef (v : View) (slot : ℕ) (sole bare : Bool) : Type 0 where
   pub light : v.weight ≡ 1
   pub sole_is : v.sole ≡ sole
   pub bare_is : v.bare ≡ bare
+  pub side_is : v.side ≡ side
+  pub bare_sole : bare ≡ true → sole ≡ true
+  pub bare_alone : bare ≡ true → side ≡ None
+  pub side_known : IfSome side (IsSideKnown fits v)
   pub below_front : Below v.front v.places
+
+-- the seat is of any role; the literal is one of the heap's, and its row begins behind so many words of rows
+pub record IsLiteral (z : HeapId) (number start : ℕ) : Type 0 where
+  pub there : number < length z.literals
+  pub start_is : start ≡ row_start z.literals number
 
 -- the seat is a share or a draft, which leaves these slots and credits
 pub record IsLoose (v : View) (free : List ℕ) (credits : ℕ) : Type 0 where
@@ -92,6 +104,9 @@ draft_seen z v slot = record { heap = z; front = v.front; places = v.places; slo
 
 abbrev pub ref_seen : HeapId → View → RefSeen
 ref_seen z v = record { heap = z; front = v.front; places = v.places; slot = v.slot; known = v.known; sole = v.sole; bare = v.bare; side = v.side; side_words = v.side_words }
+
+abbrev pub literal_seen : HeapId → View → ℕ → LiteralSeen
+literal_seen z v number = record { heap = z; front = v.front; words = row_words z.literals number }
 
 abbrev pub ended_seen : View → ℕ → ℕ → Ended
 ended_seen v slots idle = record { slots = slots; idle = idle; layout = v.layout; history = v.front; places = v.places }

@@ -1,6 +1,7 @@
 //! Where a slot's words lie in the table: its reference word, its crumb word, its data words.
-ghost use Rattle.std.specs.Prelude.{◌≡◌, ◌+◌, ◌<◌};
+ghost use Rattle.std.specs.Prelude.{◌≡◌, ◌+◌, ◌<◌, ◌≤◌};
 ghost use Rattle.slot_table.specs.Addresses.{LayoutOk, ref_at, crumb_at, data_at, size_of};
+ghost use Rattle.slot_table.specs.Steps.{found_in};
 
 use slot_model::Layout;
 
@@ -31,4 +32,15 @@ pub(crate) fn table_size(layout: &Layout) -> usize
     ensures { result ≡ size_of layout.now }
 {
     layout.slots as usize * (layout.capacity_words as usize + 2) + 1
+}
+
+/// The side that a crumb word shows.
+pub(crate) fn shown_side(crumb: u64) -> Option<u32>
+    requires { crumb ≤ 65536 }
+    ensures { result ≡ found_in crumb }
+{
+    if crumb == 0 {
+        return None;
+    }
+    Some((crumb - 1) as u32)
 }

@@ -80,6 +80,7 @@ impl<'h, A: Attach> Draft<'h, A> {
             slot,
             sole: true,
             bare: true,
+            side: None,
         }
     }
 

@@ -42,6 +42,7 @@ pub struct Heap<A: Attach> {
     pub(crate) table: Table<u64, View, Key, HeapRule<A>, Global>,
     pub(crate) layout: Layout,
     pub(crate) literals: u32,
+    pub(crate) starts: Vec<usize>,
 }
 
 impl<A: Attach> Model for Heap<A> {
@@ -52,7 +53,7 @@ impl<A: Attach> Model for Heap<A> {
 
     ghost view = { λ h. record { table = h.table.shared.table_id; layout = h.layout; literals = h.table.shared.key.literals.value } };
 
-    ghost invariant = { λ h. IsHeap (record { table = h.table.shared.table_id; layout = h.layout; literals = h.table.shared.key.literals.value }) h.table.shared.key.layout h.table.shared.key.literals.value h.literals };
+    ghost invariant = { λ h. IsHeap (record { table = h.table.shared.table_id; layout = h.layout; literals = h.table.shared.key.literals.value }) h.table.shared.key.layout h.table.shared.key.literals.value h.literals h.starts.items };
 }
 
 /// The right to the whole heap, while no pass is out. It carries no lifetime.
@@ -134,6 +135,7 @@ impl<A: Attach> Heap<A> {
             table,
             layout,
             literals: _,
+            starts: _,
         } = self;
         table.close().free();
         let Whole {

@@ -18,9 +18,18 @@
 //! words show the heap that it leaves, and what the owners hold adds up. Contracts see of an owner its heap, its front (the history as
 //! far as it has seen it) and its places (the numbers of its own events in it): `specs/Owners.antt`.
 //!
-//! The steps, by the names in `plays`: a split or a join loads word 0 and has no event, and so have a load of a data word (`Reading`)
-//! and a store into a draft (`Drafting`). Publish is a store of 1 into the count (`Publishing`), Release takes 1 from it (`Releasing`),
-//! Detach exchanges the crumb word for 0 (`Detaching`).
+//! The steps, by the names in `plays`. Without an event: a split or a join loads word 0; a data word (`Reading`), a word of a side
+//! (`SideReading`) or of a literal (`Reciting`) is loaded; a word is stored into a draft (`Drafting`). With one:
+//!
+//! | event | step |
+//! |---|---|
+//! | Publish | a store of 1 into the count (`Publishing`) |
+//! | Retain, Release | 1 is added to the count (`Retaining`), or taken from it (`Releasing`) |
+//! | Sole | a load of the count (`Asking`) |
+//! | Write | a store into a data word of a bare reference's slot (`Writing`) |
+//! | Look | a load of the crumb word (`Looking`) |
+//! | Install | a compare and exchange of the crumb word from 0 (`Installing`) |
+//! | Detach | the crumb word is exchanged for 0, by a closing seat (`Detaching`) or a sole reference (`Clearing`) |
 //!
 //! No call waits for another thread. Start at `pass.rt`.
 #![tactic(auto)]
@@ -28,20 +37,29 @@
 mod addresses;
 mod draft;
 mod heap;
+pub mod laws;
+mod literal;
 mod literals;
 mod numbers;
 mod opening;
 mod pass;
 mod plays;
 mod reference;
+mod side;
 mod view;
 
 pub use draft::Draft;
 pub use heap::{Closed, Heap, HeapRule, Key, Whole};
+pub use literal::Literal;
 pub use opening::OpenError;
 pub use pass::{Missing, Pass};
 pub use reference::Ref;
+pub use side::Installed;
 pub use view::{Role, View};
 
+#[cfg(test)]
+mod sharing_tests;
+#[cfg(test)]
+mod side_tests;
 #[cfg(test)]
 mod tests;

@@ -1,6 +1,6 @@
 //! The rows of the literals, and which literals a heap takes.
 ghost use Rattle.std.specs.Prelude.{◌≡◌, ℕ, ◌+◌, ◌*◌, ◌<◌, ◌≤◌, ◌^◌, ◌++◌, length, get_or, IfOk, OnOk, IsTrue, ◌↔◌, MatchOption};
-ghost use Rattle.slot_table.specs.Literals.{IsAccepted, AllFit, IsFirstTooLong, most_bytes, rows_of, literal_row, content_word, count_word};
+ghost use Rattle.slot_table.specs.Literals.{IsAccepted, AllFit, IsFirstTooLong, most_bytes, rows_of, row_starts, literal_row, content_word, count_word};
 
 use slot_model::Layout;
 use std::alloc::{AllocError, Global};
@@ -82,18 +82,26 @@ fn push_row(rows: &mut Vec<u64>, text: &str) -> Result<(), AllocError>
     Ok(())
 }
 
-/// The rows of all literals, one behind the other.
+/// The rows of all literals, one behind the other, and how many words stand before each.
+pub(crate) struct Rows {
+    pub(crate) words: Vec<u64>,
+    pub(crate) starts: Vec<usize>,
+}
+
 pub(crate) fn literal_rows(
     alloc: Global,
     layout: &Layout,
     literals: &TextList,
-) -> Result<Vec<u64>, AllocError>
+) -> Result<Rows, AllocError>
     requires { IsAccepted layout.now (length literals.now) × AllFit layout.now literals.now }
-    ensures { IfOk result (λ v. v.items ≡ rows_of literals.now) }
+    ensures words { IfOk result (λ r. r.words.items ≡ rows_of literals.now) }
+    ensures starts { IfOk result (λ r. r.starts.items ≡ row_starts 0 literals.now) }
 {
-    let mut rows = Vec::new(alloc);
+    let mut words = Vec::new(alloc);
+    let mut starts = Vec::new(alloc);
     for number in 0..literals.len() {
-        push_row(&mut rows, literals.get(number))?;
+        starts.push(words.len())?;
+        push_row(&mut words, literals.get(number))?;
     }
-    Ok(rows)
+    Ok(Rows { words, starts })
 }

@@ -1,13 +1,14 @@
 //! How a heap is opened: what it is refused for, and the words that its table begins with.
 ghost use Rattle.std.specs.Prelude.{◌≡◌, ℕ, ◌+◌, ◌≤◌, ◌++◌, ◌↔◌, length, vec_capacity, IfOk, Err};
-ghost use Rattle.slot_table.specs.Literals.{IsAccepted, AllFit, IsFirstTooLong, first_table};
+ghost use Rattle.slot_table.specs.Addresses.{LayoutOk, size_of};
+ghost use Rattle.slot_table.specs.Literals.{IsAccepted, AllFit, IsFirstTooLong, zeros};
 ghost use Rattle.slot_table.specs.Seats.{down_from};
 ghost use Rattle.slot_table.specs.Owners.{opened_pass};
 ghost use Rattle.slot_table.specs.declared.opening.OpenError.TheVariants.{BadLayout, LiteralTooLong};
 
 use crate::addresses::table_size;
 use crate::heap::{Heap, Key, Whole};
-use crate::literals::{first_too_long, is_accepted, literal_rows};
+use crate::literals::{Rows, first_too_long, is_accepted, literal_rows};
 use crate::numbers::all_slots;
 use atomic_table::Table;
 use slot_model::{Attach, Layout};
@@ -37,11 +38,10 @@ fn append_words(words: &mut Vec<u64>, more: &[u64])
 }
 
 // Word 0, the words of the slots, all 0, and the rows of the literals.
-fn first_words(alloc: Global, layout: &Layout, literals: &TextList) -> Result<Vec<u64>, AllocError>
-    requires { IsAccepted layout.now (length literals.now) × AllFit layout.now literals.now }
-    ensures { IfOk result (λ v. v.items ≡ first_table layout.now literals.now) }
+fn first_words(alloc: Global, layout: &Layout, rows: &Vec<u64>) -> Result<Vec<u64>, AllocError>
+    requires { LayoutOk layout.now }
+    ensures { IfOk result (λ v. v.items ≡ zeros (size_of layout.now) ++ rows.now.items) }
 {
-    let rows = literal_rows(alloc, layout, literals)?;
     let size = table_size(layout);
     let mut words = Vec::with_capacity(alloc, size + rows.len())?;
     words.resize(size, 0)?;
@@ -58,7 +58,11 @@ fn made<A: Attach>(
     ensures { IfOk result (λ t. (t.0.layout ≡ layout.now) × (t.0.literals ≡ literals.now) × (t.1 ≡ opened_pass t.0 (down_from layout.now.slots))) }
 {
     let free = all_slots(alloc, layout.slots)?;
-    let words = first_words(alloc, layout, literals)?;
+    let Rows {
+        words: rows,
+        starts,
+    } = literal_rows(alloc, layout, literals)?;
+    let words = first_words(alloc, layout, &rows)?;
     let key = Key {
         layout: *layout,
         literals: Snapshot::of(literals),
@@ -73,6 +77,7 @@ fn made<A: Attach>(
         table,
         layout: *layout,
         literals: literals.len() as u32,
+        starts,
     };
     Ok((heap, whole))
 }

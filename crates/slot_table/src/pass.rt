@@ -171,6 +171,7 @@ impl<'h, A: Attach> Pass<'h, A> {
             slot,
             sole,
             bare,
+            side,
         } = reference;
         let heap = self.heap;
         let shared = &heap.table.shared;
@@ -183,6 +184,7 @@ impl<'h, A: Attach> Pass<'h, A> {
             slot,
             sole,
             bare,
+            side,
         }
     }
 

@@ -1,13 +1,17 @@
 //! One holder of a published slot.
-ghost use Rattle.std.specs.Prelude.{◌≡◌, ℕ, ◌<◌, ◌≤◌, [], get_or, length, Bool, IfSome};
-ghost use Rattle.slot_table.specs.Owners.{Released};
+ghost use Rattle.std.specs.Prelude.{◌≡◌, ℕ, ◌+◌, ◌<◌, ◌≤◌, ◌↔◌, [], get_or, length, Bool, true, IsTrue, IsNone, IfNone, IfSome};
+ghost use Rattle.slot_model.specs.declared.event.Event.TheVariants.{Sole, Write};
+ghost use Rattle.slot_model.specs.History.{put};
+ghost use Rattle.slot_table.specs.Owners.{Adds, Released, Retained};
 ghost use Rattle.slot_table.specs.Steps.{LeftBy};
 ghost use Rattle.slot_table.specs.Ties.{IsTied, IsRef};
 
 use crate::addresses::{crumb_word, data_word, ref_word};
 use crate::heap::Heap;
 use crate::pass::Pass;
-use crate::plays::{Detaching, Reading, Releasing};
+use crate::plays::{
+    Asking, Detaching, Halved, OneCredit, Paid, Reading, Releasing, Retaining, Writing,
+};
 use crate::view::View;
 use atomic_table::Seat;
 use slot_model::Attach;
@@ -24,6 +28,7 @@ pub struct Ref<'h, A: Attach> {
     pub(crate) slot: u32,
     pub(crate) sole: bool,
     pub(crate) bare: bool,
+    pub(crate) side: Option<u32>,
 }
 
 impl<'h, A: Attach> Model for Ref<'h, A> {
@@ -34,7 +39,7 @@ impl<'h, A: Attach> Model for Ref<'h, A> {
 
     ghost view = { λ p. ref_seen p.heap.now p.seat.me.0 };
 
-    ghost invariant = { λ p. IsTied p.heap.now p.seat × IsRef p.seat.me.0 p.slot p.sole p.bare };
+    ghost invariant = { λ p. IsTied p.heap.now p.seat × IsRef A.fits p.seat.me.0 p.slot p.sole p.bare p.side };
 }
 
 impl<'h, A: Attach> Ref<'h, A> {
@@ -54,9 +59,18 @@ impl<'h, A: Attach> Ref<'h, A> {
 
     /// Whether, besides, its slot is known to have no side.
     pub fn bare(&self) -> bool
-        ensures { result ≡ self.now.bare }
+        ensures bare { result ≡ self.now.bare }
+        ensures sole { IsTrue result → (self.now.sole ≡ true) }
     {
         self.bare
+    }
+
+    /// The number of the slot that it knows as its slot's side.
+    pub fn known_side(&self) -> Option<u32>
+        ensures side { result ≡ self.now.side }
+        ensures fits { IfSome result (λ _. A.fits self.now.known self.now.side_words) }
+    {
+        self.side
     }
 
     /// Word `k` of its slot, counted from 0 and below their number. One load.
@@ -68,6 +82,70 @@ impl<'h, A: Attach> Ref<'h, A> {
         let heap = self.heap;
         let place = data_word(&heap.layout, self.slot, k);
         heap.table.shared.load::<Reading>(&mut self.seat, place)
+    }
+
+    /// Makes the event Sole: whether it is its slot's only reference, which it knows from then on. One load.
+    ///
+    /// It is always so where it was known.
+    pub fn sole(&mut self) -> bool
+        ensures event { Adds A.fits self.old.heap.layout self.old.front self.old.places (Sole self.old.slot result) self.new.front self.new.places }
+        ensures known { (self.old.sole ≡ true) → IsTrue result }
+        ensures kept { self.new ≡ record self.old { front = self.new.front; places = self.new.places; sole = result } }
+    {
+        let heap = self.heap;
+        let place = ref_word(&heap.layout, self.slot);
+        let found = heap.table.shared.load::<Asking<A>>(&mut self.seat, place);
+        self.sole = found == 1;
+        self.sole
+    }
+
+    /// Makes the event Write: word `k` of its slot, counted from 0, becomes `word`, or is appended where `k` is their number. One store.
+    ///
+    /// It is bare, and `k` is at most the number of the slot's words, and below the heap's `capacity_words`.
+    pub fn write(&mut self, k: u32, word: u64)
+        requires bare { self.old.bare ≡ true }
+        requires place { (k ≤ length self.old.known) × (k < self.old.heap.layout.capacity_words) }
+        ensures event { Adds A.fits self.old.heap.layout self.old.front self.old.places (Write self.old.slot k word) self.new.front self.new.places }
+        ensures kept { self.new ≡ record self.old { front = self.new.front; places = self.new.places; known = put self.old.known k word } }
+    {
+        let heap = self.heap;
+        let place = data_word(&heap.layout, self.slot, k);
+        heap.table
+            .shared
+            .store::<Writing<A>>(&mut self.seat, place, word);
+    }
+
+    /// Makes the event Retain: a second reference of its slot, which knows the words and the side that it knows.
+    ///
+    /// Refused, with no event, exactly where the pass has no spendable credit; else a credit of it goes to the new reference. Neither is known
+    /// sole from then on. `pass` is of the same heap. Three loads of word 0 and one addition, no memory.
+    pub fn retain(&mut self, pass: &mut Pass<'h, A>) -> Option<Ref<'h, A>>
+        requires { self.old.heap ≡ pass.old.heap }
+        ensures none { IsNone result ↔ (pass.old.credits ≡ 1) }
+        ensures kept { IfNone result ((self.new ≡ self.old) × (pass.new ≡ pass.old)) }
+        ensures retained { IfSome result (Retained A.fits self.old pass.old self.new pass.new) }
+    {
+        if pass.credits == 1 {
+            return None;
+        }
+        let heap = self.heap;
+        let shared = &heap.table.shared;
+        let credit = shared.split_seat::<OneCredit>(&mut pass.seat);
+        pass.credits -= 1;
+        shared.join_seat::<Paid>(&mut self.seat, credit);
+        let place = ref_word(&heap.layout, self.slot);
+        shared.fetch_add::<Retaining<A>>(&mut self.seat, place, 1);
+        let seat = shared.split_seat::<Halved>(&mut self.seat);
+        self.sole = false;
+        self.bare = false;
+        Some(Ref {
+            heap,
+            seat,
+            slot: self.slot,
+            sole: false,
+            bare: false,
+            side: self.side,
+        })
     }
 
     /// Gives the reference up: makes the event Release, and answers whether it was the slot's last.
@@ -84,6 +162,7 @@ impl<'h, A: Attach> Ref<'h, A> {
             slot,
             sole: _,
             bare: _,
+            side: _,
         } = self;
         match give_up(heap, &mut seat, slot) {
             None => {
@@ -105,7 +184,7 @@ impl<'h, A: Attach> Ref<'h, A> {
 // The steps that give a reference's seat up. Where it was the last, the answer is the crumb word found.
 fn give_up<A: Attach>(heap: &Heap<A>, seat: &mut Seat<u64, View>, slot: u32) -> Option<u64>
     requires tied { IsTied heap.now seat.old }
-    requires is { (sole : _) × (bare : _) × IsRef seat.old.me.0 slot sole bare }
+    requires is { (sole : _) × (bare : _) × (side : _) × IsRef A.fits seat.old.me.0 slot sole bare side }
     ensures same { (seat.new.table_id ≡ seat.old.table_id) × (seat.new.me.1 ≡ []) }
     ensures left { LeftBy A.fits seat.old.me.0 seat.new.me.0 result }
     ensures few { IfSome result (λ n. n ≤ heap.now.layout.slots) }

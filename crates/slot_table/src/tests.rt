@@ -1,7 +1,7 @@
 //! What no clause says: that the calls succeed where memory and slots are there, with one owner and with two in threads.
 //!
 //! The values are worked out by hand from the layouts.
-ghost use Rattle.std.specs.Prelude.{◌≡◌, [], ◌∷◌, true, IfSome};
+ghost use Rattle.std.specs.Prelude.{◌≡◌, [], ◌∷◌, true, None, IfSome};
 ghost use Rattle.slot_model.specs.declared.event.Event.TheVariants.{Publish, Release, Detach};
 ghost use Rattle.slot_table.specs.Owners.{Adds, IsEntire};
 
@@ -12,7 +12,7 @@ use std::test::Fail;
 use std::thread::{Threads, join_mut};
 use text_spec::TextList;
 
-struct Anything;
+pub(crate) struct Anything;
 
 impl Attach for Anything {
     ghost fits = { λ words side. Unit {0} };
@@ -22,7 +22,7 @@ impl Attach for Anything {
     }
 }
 
-fn layout(capacity_words: u32, slots: u32, credits: u32) -> Layout {
+pub(crate) fn layout(capacity_words: u32, slots: u32, credits: u32) -> Layout {
     Layout {
         capacity_words,
         slots,
@@ -31,7 +31,7 @@ fn layout(capacity_words: u32, slots: u32, credits: u32) -> Layout {
 }
 
 // One slot with one word, published.
-fn stored<'h, A: Attach>(pass: &mut Pass<'h, A>, word: u64) -> Option<Ref<'h, A>>
+pub(crate) fn stored<'h, A: Attach>(pass: &mut Pass<'h, A>, word: u64) -> Option<Ref<'h, A>>
     ensures pass { (pass.new.heap ≡ pass.old.heap) × (pass.new.front ≡ pass.old.front) × (pass.new.places ≡ pass.old.places) }
     ensures reference { IfSome result (λ r. (r.heap ≡ pass.old.heap) × (r.known ≡ word ∷ [])) }
     ensures event { IfSome result (λ r. Adds A.fits r.heap.layout pass.old.front [] (Publish r.slot (word ∷ [])) r.front r.places) }
@@ -44,7 +44,7 @@ fn stored<'h, A: Attach>(pass: &mut Pass<'h, A>, word: u64) -> Option<Ref<'h, A>
     Some(draft.publish())
 }
 
-fn ended<A: Attach>(pass: Pass<'_, A>) -> Option<Whole<A>>
+pub(crate) fn ended<A: Attach>(pass: Pass<'_, A>) -> Option<Whole<A>>
     ensures { IfSome result (λ w. (w ≡ pass.entry) × IsEntire A.fits w) }
 {
     match pass.end() {
@@ -58,7 +58,7 @@ fn ended<A: Attach>(pass: Pass<'_, A>) -> Option<Whole<A>>
 fn five_calls<A: Attach>(mut pass: Pass<'_, A>) -> Option<(Whole<A>, u64)>
     requires fresh { (pass.front ≡ []) × (pass.places ≡ []) }
     ensures heap { IfSome result (λ t. t.0.heap ≡ pass.entry.heap) }
-    ensures history { IfSome result (λ t. (x : _) × (found : _) × (t.0.front ≡ Publish x (7 ∷ []) ∷ Release x true ∷ Detach x found ∷ [])) }
+    ensures history { IfSome result (λ t. (x : _) × (t.0.front ≡ Publish x (7 ∷ []) ∷ Release x true ∷ Detach x None ∷ [])) }
     ensures word { IfSome result (λ t. t.1 ≡ 7) }
 {
     let mut reference = stored(&mut pass, 7)?;

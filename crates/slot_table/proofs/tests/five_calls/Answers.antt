@@ -18,4 +18,4 @@ returns-clause-history g c =
     let added : Adds g.A.Attach.fits r.heap.layout p.front [] (Publish r.slot (7 ∷ [])) r.front r.places =
     subst (λ (es : List Event). Adds g.A.Attach.fits r.heap.layout es [] (Publish r.slot (7 ∷ [])) r.front r.places) (c.requires.fresh.0 ∙ sym starts) c.in_ok-reference.ensures.event in
     let entire : IsEntire g.A.Attach.fits q = c.in_ok-whole.ensures.1 in
-    let events = lone_history g.A.Attach.fits p q r (7 ∷ []) starts unplaced added released entire.placed_all in (r.slot, events.0, events.1)
+    (r.slot, lone_history g.A.Attach.fits p q r (7 ∷ []) starts unplaced added released entire.placed_all entire.legal)

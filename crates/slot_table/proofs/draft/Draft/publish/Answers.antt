@@ -16,5 +16,5 @@ store-requires g c = let i = c.self.invariant in let k = c.heap.inside.table.sha
 pub invariant_of-result : goal.invariant_of-result
 invariant_of-result g c = let i = c.self.invariant in let told = c.store.ensures in let e = told.2.3 in (
   tied_on _ c.self.inside.seat _ told.0 (told.2.4 ∙ i.0.empty) (ap (λ (v : View). v.layout) e) (ap (λ (v : View). v.literals) e) i.0,
-  is_ref_by _ _ _ _ _ e (ref_from c.self.inside.seat.me.0 _ _ told.2.0 _ told.2.1 i.1),
+  is_ref_by g.A.Attach.fits _ _ _ _ _ _ e (ref_from g.A.Attach.fits c.self.inside.seat.me.0 _ _ told.2.0 _ told.2.1 i.1),
 )
