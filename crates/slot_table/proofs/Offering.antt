@@ -18,7 +18,7 @@ use Rattle.slot_table.specs.Seats.{weight_on, free_on}
 use Rattle.slot_table.specs.Owners.{side_words_in}
 use Rattle.slot_table.specs.Holdings.{SlotOk, SeatOk, ReferenceOk, SideOk, DraftOk, Holds}
 use Rattle.slot_table.specs.Steps.{Sat, recorded, found_in}
-use Rattle.slot_table.specs.ReferenceSteps.{IsSideKnown, installing, placed, Installs}
+use Rattle.slot_table.specs.ReferenceSteps.{IsSideKnown, Agrees, installing, placed, Installs}
 use Rattle.slot_table.proofs.Sums.{total_at}
 use Rattle.slot_table.proofs.Turns.{turned, prefix_more, prefix_trans, still_legal}
 use Rattle.slot_table.proofs.Kept.{one-same, weigh, idle-is}
@@ -90,6 +90,9 @@ module _ (fits : List ℕ → List ℕ → Type 0) (k : Layout) (ls : List (List
       words_are : (after (suc e) r.all).side_words ≡ side_words_in h (Some e)
       words_are = ap (λ (g : Heap). side_words_in g (Some e)) same_heap
 
+      agrees : Agrees v n (after (suc e) r.all)
+      agrees f known_is = let known = subst (SideOk k h v) known_is mine_ok.side_is in (found_is ∙ known.1, words_are ∙ (ap (side_words_in h) (sym side_is ∙ known.1) ∙ sym known.2))
+
       lost_owes : Glance fits k ls s r id x 2 v (after (suc e) r.all) (Install x d ws (Some e))
       lost_owes = record {
         offset = (omega arith, omega arith);
@@ -128,6 +131,7 @@ module _ (fits : List ℕ → List ℕ → Type 0) (k : Layout) (ls : List (List
           bare_none,
           few,
           subst (λ (m : ℕ). IfSome (after m r.all).side (IsSideKnown fits (after m r.all))) (sym is) (found_known fits k ls s r (after (suc e) r.all) x (Some e) mine_ok.layout_is mine_ok.knows words_are some_count side_is),
+          subst (λ (m : ℕ). Agrees v n (after m r.all)) (sym is) agrees,
           (r.all, seat.front_is, subst (λ (m : ℕ). Legal fits v.layout (r.all ++ installing m v ∷ [])) (sym is) (still_legal fits k r.all (Install x d ws (Some e)) v.layout mine_ok.layout_is r.legal applies), refl, refl),
         ),
       )
@@ -141,6 +145,7 @@ module _ (fits : List ℕ → List ℕ → Type 0) (k : Layout) (ls : List (List
         few,
         subst (λ (m : ℕ). IfSome (after m r.all).side (IsSideKnown fits (after m r.all))) (sym is)
             record { below = subst (λ (l : Layout). d < l.slots) (sym mine_ok.layout_is) d_ok.0; room = subst (λ (l : Layout). length ws ≤ l.capacity_words) (sym mine_ok.layout_is) d_ok.1; fit = fit },
+        (λ f known_is. let known = subst (SideOk k h v) known_is mine_ok.side_is in let none_is : None ≡ Some f = sym (sym found_is ∙ ap found_in is) ∙ known.1 in absurd (cc)),
         (r.all, seat.front_is, subst (λ (m : ℕ). Legal fits v.layout (r.all ++ installing m v ∷ [])) (sym is) (still_legal fits k r.all (Install x d ws None) v.layout mine_ok.layout_is r.legal (won_applies fits k ls u d s r id at_id fit is)), refl, refl),
       ),
     )

@@ -28,6 +28,11 @@ pass_without_credit v fs room credits rich i = let most = i.most in record {
   below_front = i.below_front;
 }
 
+-- what is so of the value, if there is one
+pub if_some : (o : Option ℕ) (P : ℕ → Type 0) → ((d : ℕ) → o ≡ Some d → P d) → IfSome o P
+if_some None P each = tt
+if_some (Some d) P each = each d refl
+
 module _ (fits : List ℕ → List ℕ → Type 0) where
   -- a known side of a view with the same words
   pub known_on : (v w : View) (side : Option ℕ) → w.layout ≡ v.layout → w.known ≡ v.known → w.side_words ≡ v.side_words → IfSome side (IsSideKnown fits v) → IfSome side (IsSideKnown fits w)

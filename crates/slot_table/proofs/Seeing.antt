@@ -17,7 +17,7 @@ use Rattle.slot_table.specs.Seats.{weight_on}
 use Rattle.slot_table.specs.Owners.{side_words_in}
 use Rattle.slot_table.specs.Holdings.{SlotOk, SeatOk, RoleOk, ReferenceOk, SideOk, Holds}
 use Rattle.slot_table.specs.Steps.{Sat, recorded, found_in}
-use Rattle.slot_table.specs.ReferenceSteps.{IsSideKnown, looking, looked, Looks, SideReads}
+use Rattle.slot_table.specs.ReferenceSteps.{IsSideKnown, Agrees, looking, looked, Looks, SideReads}
 use Rattle.slot_table.proofs.Sums.{total_at}
 use Rattle.slot_table.proofs.Turns.{turned, prefix_more, prefix_trans, still_legal}
 use Rattle.slot_table.proofs.Kept.{weigh}
@@ -96,6 +96,9 @@ module _ (fits : List ℕ → List ℕ → Type 0) (k : Layout) (ls : List (List
     bare_none : u.bare ≡ true → n ≡ 0
     bare_none b = here.crumb ∙ ap crumb_of (mine_ok.bare_is b).1
 
+    agrees : Agrees v n saw
+    agrees d is = let known = subst (SideOk k h v) is mine_ok.side_is in let found = found_is ∙ known.1 in (found, words_are ∙ (ap (side_words_in h) found ∙ sym known.2))
+
     look_owes : Glance fits k ls s r id x 2 v saw (Look x (found_in n))
     look_owes = record {
       offset = (omega arith, omega arith);
@@ -134,6 +137,7 @@ module _ (fits : List ℕ → List ℕ → Type 0) (k : Layout) (ls : List (List
         bare_none,
         subst (λ (l : Layout). n ≤ l.slots) (sym mine_ok.layout_is) (found_below fits k ls s r x n here.crumb),
         found_known fits k ls s r saw x (found_in n) mine_ok.layout_is mine_ok.knows words_are some_count (sym found_is),
+        agrees,
         (r.all, seat.front_is, still_legal fits k r.all (Look x (found_in n)) v.layout mine_ok.layout_is r.legal applies, refl, refl),
       ),
     )

@@ -79,6 +79,10 @@ pub record IsSideKnown (fits : List ℕ → List ℕ → Type 0) (v : View) (d :
   pub room : length v.side_words ≤ v.layout.capacity_words
   pub fit : fits v.known v.side_words
 
+-- a side that was known is the one that is found, with the same words
+abbrev pub Agrees : View → ℕ → View → Type 0
+Agrees v n w = (d : ℕ) → v.side ≡ Some d → (found_in n ≡ Some d) × (w.side_words ≡ v.side_words)
+
 -- a reference finds the side, of which there is none where it was marked bare
 abbrev pub looking : ℕ → View → Event
 looking n v = Look v.slot (found_in n)
@@ -87,7 +91,7 @@ abbrev pub looked : ℕ → View → View
 looked n v = record v { side = found_in n; side_words = side_words_in (heap_after v.layout v.front) (found_in n) }
 
 abbrev pub Looks : (List ℕ → List ℕ → Type 0) → Step ℕ → Sat → ℕ → Sat → Type 0
-Looks fits st m n m' = (m.0.bare ≡ true → n ≡ 0) × (n ≤ m.0.layout.slots) × IfSome (found_in n) (IsSideKnown fits m'.0) × Records fits m m' (looking n) (looked n)
+Looks fits st m n m' = (m.0.bare ≡ true → n ≡ 0) × (n ≤ m.0.layout.slots) × IfSome (found_in n) (IsSideKnown fits m'.0) × Agrees m.0 n m'.0 × Records fits m m' (looking n) (looked n)
 
 -- a reference takes in a draft, and what it has seen
 abbrev pub armed : View → View → View
@@ -102,7 +106,7 @@ placed zero v = record v { bare = false; side = v.draft; side_words = v.written;
 placed (suc d) v = record v { bare = false; side = Some d; side_words = side_words_in (heap_after v.layout v.front) (Some d) }
 
 abbrev pub Installs : (List ℕ → List ℕ → Type 0) → Step ℕ → Sat → ℕ → Sat → Type 0
-Installs fits st m n m' = IsPrefix m.0.told m.0.front × (m.0.bare ≡ true → n ≡ 0) × (n ≤ m.0.layout.slots) × IfSome m'.0.side (IsSideKnown fits m'.0) × Records fits m m' (installing n) (placed n)
+Installs fits st m n m' = IsPrefix m.0.told m.0.front × (m.0.bare ≡ true → n ≡ 0) × (n ≤ m.0.layout.slots) × IfSome m'.0.side (IsSideKnown fits m'.0) × Agrees m.0 n m'.0 × Records fits m m' (installing n) (placed n)
 
 -- all but the reference and its credit is cut off, with the slot of a draft that was not installed
 abbrev pub unarmed : View → View

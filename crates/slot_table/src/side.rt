@@ -1,10 +1,10 @@
 //! A slot's side: which it is, what it holds, how one is installed and taken away.
-ghost use Rattle.std.specs.Prelude.{◌≡◌, ℕ, ◌<◌, ◌≤◌, get_or, length, Option, true, IsNone, IsSome, IfSome};
+ghost use Rattle.std.specs.Prelude.{◌≡◌, ℕ, ◌<◌, ◌≤◌, get_or, length, Option, Some, true, IsNone, IsSome, IfSome};
 ghost use Rattle.slot_model.specs.declared.event.Event.TheVariants.{Look};
 ghost use Rattle.slot_model.specs.History.{heap_after};
 ghost use Rattle.slot_table.specs.Owners.{Adds, Offered, TakenAway, side_words_in};
 ghost use Rattle.slot_table.specs.Outcomes.{found_by};
-ghost use Rattle.slot_table.specs.declared.side.Installed.TheVariants.{Won};
+ghost use Rattle.slot_table.specs.declared.side.Installed.TheVariants.{Won, Lost};
 
 use crate::addresses::{crumb_word, data_word, shown_side};
 use crate::draft::Draft;
@@ -33,6 +33,9 @@ impl<'h, A: Attach> Ref<'h, A> {
         ensures event { Adds A.fits self.old.heap.layout self.old.front self.old.places (Look self.old.slot result) self.new.front self.new.places }
         ensures bare { (self.old.bare ≡ true) → IsNone result }
         ensures fits { IfSome result (λ _. A.fits self.new.known self.new.side_words) }
+
+        // A side that was known is the slot's still, with the same words.
+        ensures agrees { IfSome self.old.side (λ d. (result ≡ Some d) × (self.new.side_words ≡ self.old.side_words)) }
         ensures kept { self.new ≡ record self.old { front = self.new.front; places = self.new.places; side = result; side_words = side_words_in (heap_after self.old.heap.layout self.new.front) result } }
     {
         let heap = self.heap;
@@ -71,6 +74,9 @@ impl<'h, A: Attach> Ref<'h, A> {
         ensures offered { Offered A.fits self.old draft.entry pass.old (found_by result) self.new pass.new }
         ensures bare { (self.old.bare ≡ true) → (result ≡ Won) }
         ensures fits { A.fits self.new.known self.new.side_words }
+
+        // Where a side was known, that is the one there, with the same words.
+        ensures agrees { IfSome self.old.side (λ d. (result ≡ Lost d) × (self.new.side_words ≡ self.old.side_words)) }
     {
         let Draft {
             heap: _,

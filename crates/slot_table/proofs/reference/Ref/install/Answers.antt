@@ -8,11 +8,13 @@ use Rattle.slot_table.specs.Addresses.{crumb_at}
 use Rattle.slot_table.specs.Owners.{HeapId, DraftSeen, RefSeen}
 use Rattle.slot_table.specs.Steps.{recorded}
 use Rattle.slot_table.specs.ReferenceSteps.{IsSideKnown, armed, installing, placed, unarmed, change}
+use Rattle.slot_table.specs.declared.side.Installed.{Installed}
+use Rattle.slot_table.specs.declared.side.Installed.TheVariants.{Won, Lost}
 use Rattle.slot_table.proofs.Arming.{arms_allowed, changes_allowed}
 use Rattle.slot_table.proofs.Offering.{installs_allowed, placed-keeps, found_none, found_some}
 use Rattle.slot_table.proofs.Fronts.{both_prefix}
 use Rattle.slot_table.proofs.Tying.{tied_on, is_ref_by}
-use Rattle.slot_table.proofs.Referring.{ref_won, ref_lost}
+use Rattle.slot_table.proofs.Referring.{ref_won, ref_lost, if_some}
 use Rattle.slot_table.proofs.Siding.{offered_won, offered_lost}
 use Rattle.slot_table.proofs.reference.Ref.install.Goals as goal
 
@@ -33,7 +35,7 @@ compare_exchange-crumb-requires g c = let i = c.self.invariant in let d = c.draf
     (search rules, search rules, installs_allowed g.A.Attach.fits k _ _ _ _ c.draft.inside.slot _ _ new (ap (λ (v : View). v.role) both ∙ i.1.role) (ap (λ (v : View). v.weight) both ∙ i.1.light) (ap (λ (v : View). v.draft) both ∙ d.1.draft_is) fit place)
 
 pub split_seat-change-requires : goal.split_seat-change-requires
-split_seat-change-requires g c = let i = c.self.invariant in let d = c.draft.invariant in let told = c.compare_exchange-crumb.ensures.2.4 in
+split_seat-change-requires g c = let i = c.self.invariant in let d = c.draft.invariant in let told = c.compare_exchange-crumb.ensures.2.5 in
     let both : c.join_seat.new.seat.me.0 ≡ armed c.self.inside.seat.me.0 c.draft.inside.seat.me.0 = ap (λ m. m.0) c.join_seat.ensures.2 in
     let keeps = placed-keeps c.compare_exchange-crumb.result (recorded c.join_seat.new.seat.me.0 told.0 (installing c.compare_exchange-crumb.result c.join_seat.new.seat.me.0)) in
     let mine = i.1.one_credit in let theirs = d.1.one_credit in
@@ -51,7 +53,7 @@ shown_side-requires g c = let i = c.self.invariant in
 -- the draft is the side
 pub invariant_of-self : goal.invariant_of-self
 invariant_of-self g c = let i = c.self.invariant in let d = c.draft.invariant in let v : View = c.self.inside.seat.me.0 in let w : View = c.draft.inside.seat.me.0 in
-    let tells = c.compare_exchange-crumb.ensures.2 in let told = tells.4 in let e = c.split_seat-change.ensures in let n : ℕ = c.compare_exchange-crumb.result in
+    let tells = c.compare_exchange-crumb.ensures.2 in let told = tells.5 in let e = c.split_seat-change.ensures in let n : ℕ = c.compare_exchange-crumb.result in
     let both : c.join_seat.new.seat.me.0 ≡ armed v w = ap (λ m. m.0) c.join_seat.ensures.2 in
     let is : n ≡ 0 = found_none n (sym c.shown_side.ensures ∙ c.in-None.is) in
     let now : c.compare_exchange-crumb.new.seat.me.0 ≡ placed 0 (recorded (armed v w) told.0 (installing 0 (armed v w))) = told.3 ∙ (λ t. placed (is t) (recorded (both t) told.0 (installing (is t) (both t)))) in
@@ -65,7 +67,7 @@ invariant_of-self g c = let i = c.self.invariant in let d = c.draft.invariant in
 -- another side was there
 pub invariant_of-self-in-Some : goal.invariant_of-self-in-Some
 invariant_of-self-in-Some g c = let i = c.self.invariant in let d = c.draft.invariant in let v : View = c.self.inside.seat.me.0 in let w : View = c.draft.inside.seat.me.0 in
-    let tells = c.compare_exchange-crumb.ensures.2 in let told = tells.4 in let e = c.split_seat-change.ensures in let n : ℕ = c.compare_exchange-crumb.result in let f : ℕ = c.in-Some.found in
+    let tells = c.compare_exchange-crumb.ensures.2 in let told = tells.5 in let e = c.split_seat-change.ensures in let n : ℕ = c.compare_exchange-crumb.result in let f : ℕ = c.in-Some.found in
     let both : c.join_seat.new.seat.me.0 ≡ armed v w = ap (λ m. m.0) c.join_seat.ensures.2 in
     let is : n ≡ suc f = found_some n f (sym c.shown_side.ensures ∙ c.in-Some.is) in
     let now : c.compare_exchange-crumb.new.seat.me.0 ≡ placed (suc f) (recorded (armed v w) told.0 (installing (suc f) (armed v w))) = told.3 ∙ (λ t. placed (is t) (recorded (both t) told.0 (installing (is t) (both t)))) in
@@ -78,7 +80,7 @@ invariant_of-self-in-Some g c = let i = c.self.invariant in let d = c.draft.inva
 
 pub returns-in-None-clause-offered : goal.returns-in-None-clause-offered
 returns-in-None-clause-offered g c = let i = c.self.invariant in let d = c.draft.invariant in let v : View = c.self.inside.seat.me.0 in let w : View = c.draft.inside.seat.me.0 in
-    let tells = c.compare_exchange-crumb.ensures.2 in let told = tells.4 in let e = c.split_seat-change.ensures in let n : ℕ = c.compare_exchange-crumb.result in
+    let tells = c.compare_exchange-crumb.ensures.2 in let told = tells.5 in let e = c.split_seat-change.ensures in let n : ℕ = c.compare_exchange-crumb.result in
     let both : c.join_seat.new.seat.me.0 ≡ armed v w = ap (λ m. m.0) c.join_seat.ensures.2 in
     let is : n ≡ 0 = found_none n (sym c.shown_side.ensures ∙ c.in-None.is) in
     let now : c.compare_exchange-crumb.new.seat.me.0 ≡ placed 0 (recorded (armed v w) told.0 (installing 0 (armed v w))) = told.3 ∙ (λ t. placed (is t) (recorded (both t) told.0 (installing (is t) (both t)))) in
@@ -89,7 +91,7 @@ returns-in-None-clause-offered g c = let i = c.self.invariant in let d = c.draft
 
 pub returns-in-Some-clause-offered : goal.returns-in-Some-clause-offered
 returns-in-Some-clause-offered g c = let i = c.self.invariant in let d = c.draft.invariant in let v : View = c.self.inside.seat.me.0 in let w : View = c.draft.inside.seat.me.0 in
-    let tells = c.compare_exchange-crumb.ensures.2 in let told = tells.4 in let e = c.split_seat-change.ensures in let n : ℕ = c.compare_exchange-crumb.result in let f : ℕ = c.in-Some.found in
+    let tells = c.compare_exchange-crumb.ensures.2 in let told = tells.5 in let e = c.split_seat-change.ensures in let n : ℕ = c.compare_exchange-crumb.result in let f : ℕ = c.in-Some.found in
     let both : c.join_seat.new.seat.me.0 ≡ armed v w = ap (λ m. m.0) c.join_seat.ensures.2 in
     let is : n ≡ suc f = found_some n f (sym c.shown_side.ensures ∙ c.in-Some.is) in
     let now : c.compare_exchange-crumb.new.seat.me.0 ≡ placed (suc f) (recorded (armed v w) told.0 (installing (suc f) (armed v w))) = told.3 ∙ (λ t. placed (is t) (recorded (both t) told.0 (installing (is t) (both t)))) in
@@ -97,3 +99,20 @@ returns-in-Some-clause-offered g c = let i = c.self.invariant in let d = c.draft
     let legal = subst (λ (t : View × ℕ). Legal g.A.Attach.fits t.0.layout (told.0 ++ installing t.1 t.0 ∷ [])) (λ j. (both j, is j)) told.2 in
     let mine = i.1.one_credit in let theirs = d.1.one_credit in
     offered_lost g.A.Attach.fits _ _ _ _ _ _ _ v w _ _ c.draft.inside.slot told.0 f c.self.view_is c.draft.view_is i.0.layout_is d.1.draft_is joint begins legal (ap (λ m. m.0) e.2 ∙ ap unarmed now) (ap (λ m. m.0) e.4 ∙ ap change now) (omega (arith, mine, theirs)) c.absorb-in-Some.ensures
+
+-- no side was known, since there was none
+pub returns-in-None-clause-agrees : goal.returns-in-None-clause-agrees
+returns-in-None-clause-agrees g c = let v : View = c.self.inside.seat.me.0 in let l : View = c.split_seat-change.new.seat.me.0 in
+    let both : c.join_seat.new.seat.me.0 ≡ armed v c.draft.inside.seat.me.0 = ap (λ m. m.0) c.join_seat.ensures.2 in
+    subst (λ (r : RefSeen). IfSome r.side (λ d. (Won ≡ Lost d) × (l.side_words ≡ r.side_words))) c.self.view_is (if_some v.side (λ d. (Won ≡ Lost d) × (l.side_words ≡ v.side_words))
+    (λ d is. let t = c.compare_exchange-crumb.ensures.2.4 d (ap (λ (z : View). z.side) both ∙ is) in let none_is : None ≡ Some d = sym (sym c.shown_side.ensures ∙ c.in-None.is) ∙ t.0 in absurd (cc)))
+
+-- the side that was known is the one that was there
+pub returns-in-Some-clause-agrees : goal.returns-in-Some-clause-agrees
+returns-in-Some-clause-agrees g c = let v : View = c.self.inside.seat.me.0 in let l : View = c.split_seat-change.new.seat.me.0 in let f : ℕ = c.in-Some.found in
+    let both : c.join_seat.new.seat.me.0 ≡ armed v c.draft.inside.seat.me.0 = ap (λ m. m.0) c.join_seat.ensures.2 in
+    subst (λ (r : RefSeen). IfSome r.side (λ d. (Lost f ≡ Lost d) × (l.side_words ≡ r.side_words))) c.self.view_is (if_some v.side (λ d. (Lost f ≡ Lost d) × (l.side_words ≡ v.side_words))
+    (λ d is.
+    let t = c.compare_exchange-crumb.ensures.2.4 d (ap (λ (z : View). z.side) both ∙ is) in
+    let same : Some f ≡ Some d = sym c.in-Some.is ∙ (c.shown_side.ensures ∙ t.0) in let q : f ≡ d = cc in
+    (ap (λ (z : ℕ). let o : Installed = Lost z in o) q, ap (λ (z : View). z.side_words) (ap (λ m. m.0) c.split_seat-change.ensures.2) ∙ (t.1 ∙ ap (λ (z : View). z.side_words) both))))
