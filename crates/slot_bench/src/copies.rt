@@ -47,7 +47,12 @@ fn alone(mut pass: Pass<'_, Anything>, rounds: u32) -> u64 {
     sharer.pairs
 }
 
-fn together<'h, R: Threads>(rt: &R, alloc: Global, mut pass: Pass<'h, Anything>, rounds: u32) -> u64 {
+fn together<'h, R: Threads>(
+    rt: &R,
+    alloc: Global,
+    mut pass: Pass<'h, Anything>,
+    rounds: u32,
+) -> u64 {
     let Some(mut held) = stored(&mut pass, 7) else {
         return 0;
     };
