@@ -1,0 +1,7 @@
+pub mod Crumbing
+pub mod Seeing
+pub mod Growing
+pub mod Windows
+pub mod Matching
+pub mod Walks
+mod Sampling

@@ -1,0 +1,177 @@
+-- Scalars and UTF-16 units, counted byte by byte.
+use Rattle.std.proofs.Common.{◌≡◌, sym, ap, subst, ◌∙◌, ℕ, suc, ◌+◌, ◌-◌, ◌*◌, ◌/◌, ◌%◌, ◌^◌, ◌<◌, ◌≤◌, ◌≢◌, Some, inl, inr, ⊎_elim, true, nat_lt, if◌then◌else◌, List, [], ◌∷◌, length, get_or, arith}
+use Rattle.std.proofs.lemmas.Bool.{cases_lt, cond-true, cond-false, lt-ltb, le-ltb}
+use Rattle.std.specs.Char.{encode_utf8, len_utf8}
+use Rattle.std.specs.Str.{all_scalars, encode_utf8_all}
+use Rattle.std.proofs.lemmas.Str.{len_utf8_bounds, length-encode}
+use Rattle.text_spec.specs.declared.encoding.Encoding.{Encoding}
+use Rattle.text_spec.specs.declared.encoding.Encoding.TheVariants.{Utf8}
+use Rattle.text_spec.specs.Offsets.{len_utf16, start, down}
+use Rattle.text_spec.specs.Packed.{denoted_text}
+use Rattle.text_spec.specs.Views.{size_in}
+use Rattle.text_spec.proofs.Denoting.{denoted_as, utf8_words}
+use Rattle.text_spec.specs.Crumbs.{size16, index_word8, index16}
+use Rattle.crumbs.specs.Counting.{units_begun, Seen}
+use Rattle.text_spec.proofs.Walk.{start-zero, start-suc, start-le, start-mono, down-start, down-unique, down-end}
+use Rattle.text_spec.proofs.Bytes.{length-utf8, covered, byte-after, lead-boundary, decoded, Decoded}
+use Rattle.text_spec.proofs.Widths.{len8_some}
+use Rattle.crumbs.proofs.Crumbing.{index16-at}
+
+pub len_small : (c : ℕ) → c < 65536 → len_utf8 c ≤ 3
+len_small c h =
+    ⊎_elim (λ a. let e : len_utf8 c ≡ 1 = cond-true _ _ _ (lt-ltb c 128 a) in omega arith)
+    (λ a. ⊎_elim (λ b. let e : len_utf8 c ≡ 2 = cond-false _ _ _ (le-ltb c 128 a) ∙ cond-true _ _ _ (lt-ltb c 2048 b) in omega arith)
+    (λ b. let e : len_utf8 c ≡ 3 = cond-false _ _ _ (le-ltb c 128 a) ∙ cond-false _ _ _ (le-ltb c 2048 b) ∙ cond-true _ _ _ (lt-ltb c 65536 h) in omega arith)
+    (cases_lt c 2048)) (cases_lt c 128)
+
+-- ---- what a byte tells
+pub byte-rest : (b : ℕ) → 128 ≤ b → b < 192 → units_begun b ≡ 0
+byte-rest b low high = cond-false _ _ _ (le-ltb b 128 low) ∙ cond-true _ _ _ (lt-ltb b 192 high)
+
+pub byte-lead : (c b : ℕ) → Decoded (encode_utf8 c) c → b ≡ get_or (encode_utf8 c) 0 0 → units_begun b ≡ len_utf16 c
+byte-lead c b d is =
+    ⊎_elim
+    (λ a. let one = d.one (omega arith) in cond-true _ _ _ (lt-ltb b 128 a) ∙ sym (cond-true _ _ _ (lt-ltb c 65536 (omega arith))))
+    (λ a.
+    let high : 192 ≤ b = ⊎_elim (λ (e : get_or (encode_utf8 c) 0 0 < 128). absurd (omega arith)) (λ (e : 192 ≤ get_or (encode_utf8 c) 0 0). omega arith) d.lead in
+    let after : units_begun b ≡ (if nat_lt b 240 then 1 else 2) = cond-false _ _ _ (le-ltb b 128 a) ∙ cond-false _ _ _ (le-ltb b 192 high) in
+    after ∙
+    ⊎_elim
+    (λ e.
+    let small : c < 65536 = ⊎_elim (λ f. let two = d.two (omega arith) (omega arith) in omega arith) (λ f. let three = d.three (omega arith) (omega arith) in omega arith) (cases_lt b 224) in
+    cond-true _ 1 2 (lt-ltb b 240 e) ∙ sym (cond-true _ _ _ (lt-ltb c 65536 small)))
+    (λ e.
+    let wide = (d.four (omega arith)).0 in
+    let big : 65536 ≤ c = ⊎_elim (λ f. absurd (omega (arith, length-encode c, len_small c f))) (λ f. f) (cases_lt c 65536) in
+    cond-false _ 1 2 (le-ltb b 240 e) ∙ sym (cond-false _ _ _ (le-ltb c 65536 big))) (cases_lt b 240))
+    (cases_lt b 128)
+
+-- ---- one byte more
+module _ (t : List ℕ) (ok : all_scalars t ≡ true) where
+  -- where scalar k begins, the byte is its first
+  seen_lead : (k p : ℕ) → k < length t → start len_utf8 t k ≡ p → units_begun (get_or (encode_utf8_all t) p 0) ≡ len_utf16 (get_or t k 0)
+  seen_lead k p h e =
+      let next = start-suc len_utf8 t k h in
+      let inside : p < length (encode_utf8_all t) = omega (arith, len8_some (get_or t k 0), start-le len_utf8 t (suc k), length-utf8 t) in
+      let same : down len_utf8 t p ≡ k = ap (down len_utf8 t) (sym e) ∙ down-start len_utf8 len8_some t k (omega arith) in
+      let at : start len_utf8 t (down len_utf8 t p) ≡ p = ap (start len_utf8 t) same ∙ e in
+      let here = covered t ok p inside in
+      let none : p + 0 ≡ p = omega arith in
+      let first : get_or (encode_utf8_all t) p 0 ≡ get_or (encode_utf8 (get_or t (down len_utf8 t p) 0)) 0 0 =
+      ap (λ n. get_or (encode_utf8_all t) n 0) (sym none) ∙ byte-after t ok p 0 inside at (omega (arith, here.width.0)) in
+      byte-lead (get_or t (down len_utf8 t p) 0) (get_or (encode_utf8_all t) p 0) (decoded _ here.scalar) first ∙ ap (λ j. len_utf16 (get_or t j 0)) same
+
+  module _ (p units : ℕ) (s : Seen t p units) where
+    -- below it, it continues one
+    seen_rest : p < length (encode_utf8_all t) → p < start len_utf8 t s.number → units_begun (get_or (encode_utf8_all t) p 0) ≡ 0
+    seen_rest h low =
+        let here = covered t ok p h in
+        let j = down len_utf8 t p in
+        let b = get_or (encode_utf8_all t) p 0 in
+        let k = s.number in
+        -- the scalar that covers p began before it
+        let began : j < k = ⊎_elim (λ l. l) (λ (l : k ≤ j). absurd (omega (arith, start-mono len_utf8 t k j l, here.low))) (cases_lt j k) in
+        let before = s.last j began in
+        let both : (128 ≤ b) × (b < 192) =
+        ⊎_elim (λ a. absurd (omega (arith, lead-boundary t ok p h (inl a)))) (λ a. ⊎_elim (λ d. (a, d)) (λ d. absurd (omega (arith, lead-boundary t ok p h (inr d)))) (cases_lt b 192)) (cases_lt b 128) in
+        byte-rest b both.0 both.1
+
+    -- a scalar begins at p where the text doesn't end there
+    begins : p < length (encode_utf8_all t) → start len_utf8 t s.number ≡ p → s.number < length t
+    begins h at =
+        ⊎_elim (λ l. l) (λ (l : length t ≤ s.number). let f : s.number ≡ length t = omega (arith, s.inside) in absurd (omega (arith, ap (start len_utf8 t) f, length-utf8 t))) (cases_lt s.number (length t))
+
+    pub seen_more : p < length (encode_utf8_all t) → Seen t (p + 1) (units + units_begun (get_or (encode_utf8_all t) p 0))
+    seen_more h =
+        let k = s.number in
+        let b = get_or (encode_utf8_all t) p 0 in
+        ⊎_elim
+        (λ low.
+        let r = seen_rest h low in
+        record { number = k; inside = s.inside; next = omega arith; last = λ j l. omega (arith, s.last j l); units_are = omega (arith, s.units_are, r); units_in = omega (arith, s.units_in, r) })
+        (λ high.
+        let e : start len_utf8 t k ≡ p = omega (arith, s.next) in
+        let some = begins h e in
+        let r = seen_lead k p some e in
+        let next8 = start-suc len_utf8 t k some in
+        let next16 = start-suc len_utf16 t k some in
+        record {
+          number = suc k;
+          inside = some;
+          next = omega (arith, len8_some (get_or t k 0));
+          last = λ j l. omega (arith, start-mono len_utf8 t j k (omega arith));
+          units_are = omega (arith, s.units_are, r);
+          units_in = omega (arith, s.units_are, r, start-le len_utf16 t (suc k));
+        }) (cases_lt p (start len_utf8 t k))
+
+    -- the index of each unit of the scalar that begins at p
+    pub seen_units : p < length (encode_utf8_all t) → (o : ℕ) → units ≤ o → o < units + units_begun (get_or (encode_utf8_all t) p 0) → index16 t o ≡ index_word8 p (o - units)
+    seen_units h o low high =
+        let k = s.number in
+        ⊎_elim (λ rest. absurd (omega (arith, seen_rest h rest)))
+        (λ at.
+        let e : start len_utf8 t k ≡ p = omega (arith, s.next) in
+        let some = begins h e in
+        let r = seen_lead k p some e in
+        let d : down len_utf16 t o ≡ k = down-unique len_utf16 t o k some (omega (arith, s.units_are)) (omega (arith, s.units_are, r, start-suc len_utf16 t k some)) in
+        sym (index16-at t o k p (o - units) d e (ap (λ n. o - n) (sym s.units_are))))
+        (cases_lt p (start len_utf8 t k))
+
+pub seen_none : (t : List ℕ) → Seen t 0 0
+seen_none t = record { number = 0; inside = omega arith; next = omega arith; last = λ j l. absurd (omega arith); units_are = sym (start-zero len_utf16 t); units_in = omega arith }
+
+-- at the end every scalar is seen
+all_seen : (t : List ℕ) (p units : ℕ) (s : Seen t p units) → p ≡ length (encode_utf8_all t) → s.number ≡ length t
+all_seen t p units s e =
+    ⊎_elim (λ (l : s.number < length t). absurd (omega (arith, start-suc len_utf8 t s.number l, len8_some (get_or t s.number 0), start-le len_utf8 t (suc s.number), length-utf8 t, s.next))) (λ (l : length t ≤ s.number). omega (arith, s.inside)) (cases_lt s.number (length t))
+
+pub seen_all : (t : List ℕ) (p units : ℕ) → Seen t p units → p ≡ length (encode_utf8_all t) → units ≡ size16 t
+seen_all t p units s e = s.units_are ∙ ap (start len_utf16 t) (all_seen t p units s e)
+
+-- the index of the end
+pub end_unit : (t : List ℕ) (p units : ℕ) → Seen t p units → p ≡ length (encode_utf8_all t) → (o : ℕ) → units ≤ o → o < units + 1 → index16 t o ≡ index_word8 p (o - units)
+end_unit t p units s e o low high =
+    let all = seen_all t p units s e in
+    let d : down len_utf16 t o ≡ length t = down-end len_utf16 t o (omega (arith, all)) in
+    sym (index16-at t o (length t) p (o - units) d (omega (arith, length-utf8 t)) (omega (arith, all)))
+
+-- the content words of a text are no more than its scalars
+bytes_most : (t : List ℕ) → start len_utf8 t (length t) ≤ 4 * length t
+bytes_most [] = omega arith
+bytes_most (c ∷ t) = let b = len_utf8_bounds c in omega (arith, bytes_most t)
+
+pub words_most : (t : List ℕ) → (start len_utf8 t (length t) + 7) / 8 ≤ length t
+words_most t = omega (arith, bytes_most t)
+
+-- ---- one byte more of content words
+pub long8 : (e : Encoding) (n : ℕ) (b : List ℕ) → e ≡ Utf8 → n ≡ size_in e b → n ≡ size_in Utf8 b
+long8 e n b same long = long ∙ ap (λ x. size_in x b) same
+
+pub record Stepped (b : List ℕ) (p reached stop : ℕ) : Type 0 where
+  pub more : Seen b (p + 1) stop
+  pub units : (o : ℕ) → reached ≤ o → o < stop → index16 b o ≡ index_word8 p (o - reached)
+
+pub stepped : (e : Encoding) (ws : List ℕ) (n : ℕ) (b : List ℕ) (p reached word wide : ℕ) → e ≡ Utf8 → n ≡ size_in e b → denoted_text e ws n ≡ Some b
+    → Seen b p reached → p < n → word ≡ get_or ws (p / 8) 0 → wide ≡ units_begun (word / 2 ^ (8 * (p % 8)) % 256) → Stepped b p reached (reached + wide)
+stepped e ws n b p reached word wide same long is seen inside here takes =
+    let w = utf8_words ws (size_in Utf8 b) b (denoted_as e Utf8 ws n b same long is) in
+    let below : p < length (encode_utf8_all b) = omega (arith, inside, long8 e n b same long, length-utf8 b) in
+    let byte : word / 2 ^ (8 * (p % 8)) % 256 ≡ get_or (encode_utf8_all b) p 0 = ap (λ v. v / 2 ^ (8 * (p % 8)) % 256) here ∙ w.held.1 p below in
+    let told : units_begun (get_or (encode_utf8_all b) p 0) ≡ wide = sym (takes ∙ ap units_begun byte) in
+    record {
+      more = subst (λ x. Seen b (p + 1) (reached + x)) told (seen_more b w.scalars p reached seen below);
+      units = subst (λ x. (o : ℕ) → reached ≤ o → o < reached + x → index16 b o ≡ index_word8 p (o - reached)) told (seen_units b w.scalars p reached seen below);
+    }
+
+-- the word at hand is that of the next byte too, within a word
+pub same_word : (ws : List ℕ) (p word : ℕ) → word ≡ get_or ws (p / 8) 0 → (p + 1) % 8 ≢ 0 → word ≡ get_or ws ((p + 1) / 8) 0
+same_word ws p word here inside = let e : p / 8 ≡ (p + 1) / 8 = omega arith in here ∙ ap (λ i. get_or ws i 0) e
+
+-- at the end all units are counted, and the last index is that of the end
+pub seen_end : (e : Encoding) (n : ℕ) (b : List ℕ) (p reached : ℕ) → e ≡ Utf8 → n ≡ size_in e b → Seen b p reached → p ≡ n → reached ≡ size16 b
+seen_end e n b p reached same long seen at = seen_all b p reached seen (at ∙ long8 e n b same long ∙ sym (length-utf8 b))
+
+pub end_units : (e : Encoding) (n : ℕ) (b : List ℕ) (p reached : ℕ) → e ≡ Utf8 → n ≡ size_in e b → Seen b p reached → p ≡ n
+    → (o : ℕ) → reached ≤ o → o < reached + 1 → index16 b o ≡ index_word8 n (o - reached)
+end_units e n b p reached same long seen at o low high =
+    end_unit b p reached seen (at ∙ long8 e n b same long ∙ sym (length-utf8 b)) o low high ∙ ap (λ q. index_word8 q (o - reached)) at

@@ -1,0 +1,56 @@
+use Rattle.std.proofs.Common.{◌≡◌, refl, ap, ◌∙◌, ◌+◌, ◌-◌, ◌*◌, ◌/◌, ◌<◌, ◌≤◌, arith, subst}
+use Rattle.text_spec.specs.Crumbs.{index16}
+use Rattle.index_words.specs.Fields.{place_of}
+use Rattle.crumbs.proofs.Crumbing.{index16-zero, halved, le_told, gt_told}
+use Rattle.crumbs.proofs.asking.last_before.Goals as goal
+
+pub halves-init : goal.halves-init
+halves-init g c =
+    let b = g.T.Text.whole c.args.t.now in
+    let none : 0 * g.T.Text.STRIDE ≡ 0 = omega arith in
+    record {
+      same = refl;
+      apart = omega arith;
+      within = omega arith;
+      before = omega (arith, ap (λ m. place_of (index16 b m)) none, index16-zero b);
+      after = λ h. absurd (omega arith);
+      cost = λ d h. (d, omega arith, omega arith);
+    }
+
+pub halves-preserved-then-le : goal.halves-preserved-then-le
+halves-preserved-then-le g c =
+    let l = c.halves in
+    let middle = l.low + (l.high - l.low) / 2 in
+    record {
+      same = c.crumb-there.ensures.kept ∙ l.invariant.same;
+      apart = omega arith;
+      within = l.invariant.within;
+      before = subst (λ n. place_of n ≤ place_of c.args.i) (there g c) (le_told _ _ c.if-le.ensures);
+      after = l.invariant.after;
+      cost = λ digits h.
+          let e = l.invariant.cost digits h in
+          let f = halved (l.high - l.low) (l.high - middle) e.0 l.steps _ (omega arith) e.1 (omega arith) e.2 in
+          (f.0, f.1, omega (arith, f.2));
+    }
+  where
+    there : (g : _) (c : goal.Then-le g) → c.crumb-there.result ≡ index16 (g.T.Text.whole c.args.t.now) ((c.halves.low + (c.halves.high - c.halves.low) / 2) * g.T.Text.STRIDE)
+    there g c = c.crumb-there.ensures.value ∙ ap (λ t. index16 (g.T.Text.whole t) ((c.halves.low + (c.halves.high - c.halves.low) / 2) * g.T.Text.STRIDE)) c.halves.invariant.same
+
+pub halves-preserved : goal.halves-preserved
+halves-preserved g c =
+    let l = c.halves in
+    let middle = l.low + (l.high - l.low) / 2 in
+    record {
+      same = c.crumb-there.ensures.kept ∙ l.invariant.same;
+      apart = omega arith;
+      within = omega arith;
+      before = l.invariant.before;
+      after = λ h. subst (λ n. place_of c.args.i < place_of n) (there g c) (gt_told _ _ c.if-le.ensures);
+      cost = λ digits h.
+          let e = l.invariant.cost digits h in
+          let f = halved (l.high - l.low) (middle - l.low) e.0 l.steps _ (omega arith) e.1 (omega arith) e.2 in
+          (f.0, f.1, omega (arith, f.2));
+    }
+  where
+    there : (g : _) (c : goal.Else-le g) → c.crumb-there.result ≡ index16 (g.T.Text.whole c.args.t.now) ((c.halves.low + (c.halves.high - c.halves.low) / 2) * g.T.Text.STRIDE)
+    there g c = c.crumb-there.ensures.value ∙ ap (λ t. index16 (g.T.Text.whole t) ((c.halves.low + (c.halves.high - c.halves.low) / 2) * g.T.Text.STRIDE)) c.halves.invariant.same

@@ -1,0 +1,85 @@
+//! The list of breadcrumbs written into a draft.
+ghost use Rattle.std.specs.Prelude.{◌≡◌, ℕ, List, ◌+◌, ◌-◌, ◌*◌, ◌/◌, ◌^◌, ◌<◌, ◌≤◌, ◌++◌, length};
+ghost use Rattle.text_spec.specs.declared.encoding.Encoding.TheVariants.{Utf8};
+ghost use Rattle.text_spec.specs.Crumbs.{size16, index_word8, index16, crumbs};
+ghost use Rattle.text_spec.specs.Packed.{content_words};
+ghost use Rattle.text_spec.specs.Views.{size_in};
+ghost use Rattle.crumbs.specs.Counting.{crumbs_below};
+
+use crate::counting::{count_units, units_at, word_at};
+use crate::crumb::word_of_crumb;
+use slot_model::Attach;
+use slot_table::Draft;
+use std::sync::ledger::Ledger;
+use word_units::{Steps, Text};
+
+/// Writes the breadcrumbs of the UTF-16 units below `stop`, from breadcrumb `number` on, and answers the number of the next one.
+///
+/// The units from `reached` to `stop` are those of what stands at byte `at`: of one scalar, or that of the end.
+fn write_due<T: Text, A: Attach>(
+    t: &T,
+    draft: &mut Draft<'_, A>,
+    number: u64,
+    at: u64,
+    reached: u64,
+    stop: u64,
+) -> u64
+    requires some { (1 ≤ T.STRIDE) × (T.STRIDE ≤ 4096) }
+    requires small { (at < 2 ^ 48) × (stop < 2 ^ 49) × (number < 2 ^ 49) }
+    requires due { reached ≤ number * T.STRIDE }
+    requires begun { 0 < number → (number - 1) * T.STRIDE < reached }
+    requires ahead { reached ≤ stop }
+    requires near { stop ≤ reached + 2 }
+    requires units { (o : ℕ) → reached ≤ o → o < stop → index16 (T.whole t.now) o ≡ index_word8 at (o - reached) }
+    requires inside { stop ≤ size16 (T.whole t.now) + 1 }
+    requires room { length draft.old.written + size16 (T.whole t.now) / T.STRIDE + 1 ≤ draft.old.heap.layout.capacity_words + number }
+    ensures written { (front : List ℕ) → draft.old.written ≡ front ++ crumbs_below (T.whole t.now) T.STRIDE number
+        → draft.new ≡ record draft.old { written = front ++ crumbs_below (T.whole t.now) T.STRIDE result } }
+    ensures heap { draft.new.heap ≡ draft.old.heap }
+    ensures longer { length draft.new.written + number ≡ length draft.old.written + result }
+    ensures due { stop ≤ result * T.STRIDE }
+    ensures last { 0 < result → (result - 1) * T.STRIDE < stop }
+{
+    let stride = t.stride() as u64;
+    let mut next = number;
+    'due: while next * stride < stop {
+        draft.write(word_of_crumb(at, next * stride - reached));
+        next += 1;
+    }
+    next
+}
+
+/// Appends the list of breadcrumbs of a text to a draft: its length in UTF-16 units, and an index word at each `stride`-th unit.
+///
+/// The storage is UTF-8 and the text is all of it, its stride is 1 to 4,096, and the draft has room for `u / stride + 2` words,
+/// where the text has u UTF-16 units. Two passes over the words, of which the first counts the units and each reads each word once:
+/// at most two words for each scalar are read.
+pub fn build<T: Text, A: Attach, L: Ledger>(
+    t: &mut T,
+    draft: &mut Draft<'_, A>,
+    steps: &mut Steps<L>,
+)
+    requires storage { T.storage t.old ≡ Utf8 }
+    requires all { (T.first t.old ≡ 0) × (T.end t.old ≡ length (T.whole t.old)) }
+    requires some { (1 ≤ T.STRIDE) × (T.STRIDE ≤ 4096) }
+    requires room { length draft.old.written + size16 (T.whole t.old) / T.STRIDE + 2 ≤ draft.old.heap.layout.capacity_words }
+    ensures written { draft.new ≡ record draft.old { written = draft.old.written ++ crumbs (T.whole t.old) T.STRIDE } }
+    ensures kept { t.new ≡ t.old }
+
+    // Each content word is read twice, and a text has no more of them than scalars.
+    ensures cost { steps.new ≡ steps.old + 2 * content_words Utf8 (size_in Utf8 (T.whole t.old)) }
+    ensures few { steps.new ≤ steps.old + 2 * length (T.whole t.old) }
+{
+    let count = t.count();
+    draft.write(count_units(t, steps));
+    let mut word = 0;
+    let mut number = 0;
+    let mut reached = 0;
+    'bytes: for p in 0..count {
+        word = word_at(t, word, p, steps);
+        let stop = reached + units_at(word, p);
+        number = write_due(t, draft, number, p, reached, stop);
+        reached = stop;
+    }
+    write_due(t, draft, number, count, reached, reached + 1);
+}

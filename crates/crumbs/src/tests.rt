@@ -1,0 +1,409 @@
+//! What no clause says: that each call answers at a concrete type, and the lists of texts written out by hand and by a plain program.
+ghost use Rattle.std.specs.Prelude.{◌≡◌, true, ◌+◌, ◌/◌, ◌<◌, ◌≤◌, [], ◌++◌, length, IfOk, IfSome};
+ghost use Rattle.std.specs.Option.{unwrap_or};
+ghost use Rattle.text_spec.specs.Crumbs.{size16, crumbs};
+ghost use Rattle.text_spec.specs.declared.encoding.Encoding.TheVariants.{Utf8};
+ghost use Rattle.text_spec.specs.Views.{size_in};
+ghost use Rattle.index_words.specs.Fields.{position_of};
+ghost use Rattle.crumbs.specs.Fitting.{stored_text};
+
+mod sampled;
+
+use crate::{Crumbs, build, index_of_offset, offset_of_index};
+use index_words::Index;
+use sampled::Sampled;
+use slot_model::{Attach, Layout};
+use slot_table::{Draft, Heap, Pass, Ref};
+use std::alloc::Global;
+use std::marker::Brand;
+use std::process::Abort;
+use std::sync::ledger::{Blank, Ledger};
+use text_spec::{Encoding, OutOfMemory, TextList};
+use word_units::{OutOfBounds, Steps, Text};
+
+/// The words of a stored text: a count word, and eight bytes to a word behind it.
+fn stored(alloc: Global, text: &str) -> Result<Vec<u64>, OutOfMemory> {
+    let mut words = Vec::new(alloc);
+    words.push((text.len() as u64) | 0x3000_0000_0000_0000)?;
+    let mut word: u64 = 0;
+    for (p, byte) in text.bytes().enumerate() {
+        word |= (byte as u64).wrapping_shl((8 * (p % 8)) as u32);
+        if p % 8 == 7 {
+            words.push(word)?;
+            word = 0;
+        }
+    }
+    if text.len() % 8 != 0 {
+        words.push(word)?;
+    }
+    Ok(words)
+}
+
+/// How many UTF-16 units a text has.
+fn units_of(text: &str) -> u64 {
+    let mut units: u64 = 0;
+    for scalar in text.chars() {
+        units = units.wrapping_add(scalar.len_utf16() as u64);
+    }
+    units
+}
+
+/// The list of breadcrumbs by a plain program: unit after unit, of which each `stride`-th gets an index word.
+fn plain_list(alloc: Global, text: &str, stride: u64) -> Result<Vec<u64>, OutOfMemory>
+    requires { 0 < stride }
+{
+    let mut list = Vec::new(alloc);
+    list.push(units_of(text))?;
+    let mut unit: u64 = 0;
+    for (p, scalar) in text.char_indices() {
+        for past in 0..scalar.len_utf16() as u64 {
+            if unit % stride == 0 {
+                list.push(plain_word(p as u64, past))?;
+            }
+            unit = unit.wrapping_add(1);
+        }
+    }
+    if unit % stride == 0 {
+        list.push(plain_word(text.len() as u64, 0))?;
+    }
+    Ok(list)
+}
+
+fn plain_word(position: u64, past: u64) -> u64 {
+    position.wrapping_shl(16) | past.wrapping_shl(14) | if past == 0 { 5 } else { 4 }
+}
+
+/// The words of a published slot.
+fn copied<A: Attach>(
+    alloc: Global,
+    reference: &mut Ref<'_, A>,
+    len: u32,
+) -> Result<Vec<u64>, OutOfMemory>
+    requires { len ≡ length reference.old.known }
+    ensures words { IfOk result (λ words. words.items ≡ reference.old.known) }
+    ensures kept { reference.new ≡ reference.old }
+{
+    let mut words = Vec::new(alloc);
+    for k in 0..len {
+        words.push(reference.read(k))?;
+    }
+    Ok(words)
+}
+
+/// `build`, where nobody asks for the steps.
+fn build_uncounted<T: Text, A: Attach, L: Ledger>(t: &mut T, draft: &mut Draft<'_, A>, blank: Blank)
+    requires storage { T.storage t.old ≡ Utf8 }
+    requires all { (T.first t.old ≡ 0) × (T.end t.old ≡ length (T.whole t.old)) }
+    requires some { (1 ≤ T.STRIDE) × (T.STRIDE ≤ 4096) }
+    requires room { length draft.old.written + size16 (T.whole t.old) / T.STRIDE + 2 ≤ draft.old.heap.layout.capacity_words }
+    requires name { blank.name ≡ L.name }
+    requires parts { blank.parts ≡ L.parts }
+    requires one { blank.parts ≡ 1 }
+    ensures written { draft.new ≡ record draft.old { written = draft.old.written ++ crumbs (T.whole t.old) T.STRIDE } }
+    ensures kept { t.new ≡ t.old }
+{
+    let mut steps = Steps::<L>::from_blank(blank);
+    build(t, draft, &mut steps);
+}
+
+/// The list that `build` writes into a draft, out of the slot in which it is published.
+fn built<const DISTANCE: usize>(
+    alloc: Global,
+    t: &mut Sampled<DISTANCE>,
+    pass: &mut Pass<'_, Crumbs<DISTANCE>>,
+) -> Result<Option<Vec<u64>>, OutOfMemory>
+    requires { (1 ≤ DISTANCE) × (DISTANCE ≤ 4096) }
+    ensures list { IfOk result (λ list. IfSome list (λ words. words.items ≡ crumbs (unwrap_or (stored_text (t.old.0)) []) DISTANCE)) }
+    ensures kept { t.new ≡ t.old }
+    ensures heap { pass.new.heap ≡ pass.old.heap }
+{
+    let count = t.count();
+    let room = pass.capacity_words();
+    let Some(mut draft) = pass.draft() else {
+        return Ok(None);
+    };
+    if count / DISTANCE as u64 + 2 > room as u64 {
+        return Ok(None);
+    }
+    build_uncounted::<Sampled<DISTANCE>, Crumbs<DISTANCE>, Brand>(t, &mut draft, Blank::new(1));
+    let mut reference = draft.publish();
+    let len = reference.read(0) / DISTANCE as u64 + 2;
+    let list = copied(alloc, &mut reference, len as u32)?;
+    reference.release(pass);
+    Ok(Some(list))
+}
+
+/// The answers of one text at one stride: the list by the plain program, the list that `build` wrote, and whether it fits.
+fn check_list<const DISTANCE: usize>(
+    rt: &impl Abort,
+    alloc: Global,
+    text: &str,
+) -> Result<Vec<u64>, OutOfMemory>
+    requires { (1 ≤ DISTANCE) × (DISTANCE ≤ 4096) }
+{
+    let plain = plain_list(alloc, text, DISTANCE as u64)?;
+    let wanted = plain.clone()?;
+    let mut t = Sampled::<DISTANCE>::new(stored(alloc, text)?, plain, false).expect(
+        rt,
+        "the list of {text:?} at {DISTANCE} fits",
+    );
+    let layout = Layout {
+        capacity_words: 300,
+        slots: 1,
+        credits: 2,
+    };
+    let Ok((heap, whole)) = Heap::<Crumbs<DISTANCE>>::open(alloc, &layout, &TextList::new(alloc))
+    else {
+        panic!(rt; "no heap")
+    };
+    let mut pass = heap.pass(whole);
+    let list = built(alloc, &mut t, &mut pass)?.expect(rt, "there is room");
+    assert_eq!(rt;
+        list.as_slice(),
+        wanted.as_slice(),
+        "{text:?} at {DISTANCE}"
+    );
+    let words = text.len().div_ceil(8) as u64;
+    assert_eq!(rt;
+        t.take_reads(),
+        words.wrapping_mul(2),
+        "words read of {text:?}"
+    );
+    Ok(list)
+}
+
+/// The lists of a text at five strides are those of the plain program.
+fn check_lists(rt: &impl Abort, alloc: Global, text: &str) -> Result<(), OutOfMemory> {
+    check_list::<1>(rt, alloc, text)?;
+    check_list::<2>(rt, alloc, text)?;
+    check_list::<63>(rt, alloc, text)?;
+    check_list::<64>(rt, alloc, text)?;
+    check_list::<4096>(rt, alloc, text)?;
+    Ok(())
+}
+
+#[test]
+fn built_lists_are_those_of_a_plain_program(rt: HostRuntime) -> Result<(), OutOfMemory> {
+    let alloc = rt.alloc();
+    for pad in ["", "a", "é", "€", "😀"] {
+        for times in [0, 1, 31, 62, 63, 64, 65] {
+            let mut text = String::new(alloc);
+            for _ in 0..times {
+                text.push_str(pad)?;
+            }
+            check_lists(&rt, alloc, text.as_str())?;
+            text.push_str("😀a😀")?;
+            check_lists(&rt, alloc, text.as_str())?;
+        }
+    }
+    Ok(())
+}
+
+#[test]
+fn a_pair_over_a_stride_has_a_crumb_on_its_second_half(rt: HostRuntime) -> Result<(), OutOfMemory> {
+    let alloc = rt.alloc();
+    let mut text = String::new(alloc);
+    for _ in 0..63 {
+        text.push_str("é")?;
+    }
+    text.push_str("😀")?;
+    for _ in 0..63 {
+        text.push_str("é")?;
+    }
+    let list = check_list::<64>(&rt, alloc, text.as_str())?;
+    assert_eq!(rt; list.as_slice(), [128, 5, 8273924, 16777221].as_slice());
+    let empty = check_list::<64>(&rt, alloc, "")?;
+    assert_eq!(rt; empty.as_slice(), [0, 5].as_slice());
+    Ok(())
+}
+
+/// `index_of_offset`, where nobody asks for the steps.
+fn index_uncounted<T: Text, L: Ledger>(
+    t: &mut T,
+    offset: u64,
+    blank: Blank,
+) -> Result<Index, OutOfBounds>
+    requires known { T.knows_crumbs t.old ≡ true }
+    requires some { 1 ≤ T.STRIDE }
+    requires name { blank.name ≡ L.name }
+    requires parts { blank.parts ≡ L.parts }
+    requires one { blank.parts ≡ 1 }
+    ensures { t.new ≡ t.old }
+{
+    let mut steps = Steps::<L>::from_blank(blank);
+    index_of_offset(t, offset, &mut steps)
+}
+
+/// `offset_of_index`, where nobody asks for the steps.
+fn offset_uncounted<T: Text, L: Ledger>(t: &mut T, i: Index, blank: Blank) -> u64
+    requires known { T.knows_crumbs t.old ≡ true }
+    requires some { 1 ≤ T.STRIDE }
+    requires inside { position_of i ≤ size_in Utf8 (T.whole t.old) }
+    requires name { blank.name ≡ L.name }
+    requires parts { blank.parts ≡ L.parts }
+    requires one { blank.parts ≡ 1 }
+    ensures { t.new ≡ t.old }
+{
+    let mut steps = Steps::<L>::from_blank(blank);
+    offset_of_index(t, i, &mut steps)
+}
+
+/// The index word of a UTF-16 offset; `None` where the offset is past the end.
+fn word_of_offset<const DISTANCE: usize>(t: &mut Sampled<DISTANCE>, offset: u64) -> Option<u64>
+    requires known { t.old.2 ≡ true }
+    requires some { 1 ≤ DISTANCE }
+    ensures { t.new ≡ t.old }
+{
+    match index_uncounted::<Sampled<DISTANCE>, Brand>(t, offset, Blank::new(1)) {
+        Ok(index) => Some(index.bits()),
+        Err(_) => None,
+    }
+}
+
+/// The UTF-16 offset of an index that is read in bytes; `None` where it is past the end.
+fn offset_of_place<const DISTANCE: usize>(
+    t: &mut Sampled<DISTANCE>,
+    position: u64,
+    transcoded: u32,
+) -> Option<u64>
+    requires known { t.old.2 ≡ true }
+    requires some { 1 ≤ DISTANCE }
+    ensures { t.new ≡ t.old }
+{
+    let count = t.count();
+    let i = Index::new(
+        position % 0x1_0000_0000_0000,
+        transcoded % 4,
+        Encoding::Utf8,
+    );
+    if i.position() > count {
+        return None;
+    }
+    Some(offset_uncounted::<Sampled<DISTANCE>, Brand>(t, i, Blank::new(1)))
+}
+
+/// The units of the scalar that begins at byte `p` behind `unit` units are found there, by at most two words a unit of the stride.
+fn check_units<const DISTANCE: usize>(
+    rt: &impl Abort,
+    t: &mut Sampled<DISTANCE>,
+    p: u64,
+    unit: u64,
+    units: u64,
+)
+    requires known { t.old.2 ≡ true }
+    requires some { 1 ≤ DISTANCE }
+    ensures { t.new ≡ t.old }
+{
+    for past in 0..units {
+        let word = word_of_offset(t, unit.wrapping_add(past));
+        assert_eq!(rt;
+            word,
+            Some(plain_word(p, past)),
+            "{unit} and {past} at {DISTANCE}"
+        );
+        let reads = t.take_reads();
+        let most = (DISTANCE as u64).wrapping_mul(2);
+        assert!(rt;
+            reads <= most,
+            "{reads} words for unit {unit} and {past} at {DISTANCE}"
+        );
+    }
+}
+
+/// The four indices at byte `q` have the offset `unit`, or so many more as they pass of a scalar that begins there and has `units`.
+fn check_byte<const DISTANCE: usize>(
+    rt: &impl Abort,
+    t: &mut Sampled<DISTANCE>,
+    q: u64,
+    unit: u64,
+    units: u64,
+    digits: u64,
+)
+    requires known { t.old.2 ≡ true }
+    requires some { 1 ≤ DISTANCE }
+    ensures { t.new ≡ t.old }
+{
+    for transcoded in 0..4 {
+        let past = if (transcoded as u64) < units {
+            transcoded as u64
+        } else {
+            0
+        };
+        let offset = offset_of_place(t, q, transcoded);
+        assert_eq!(rt;
+            offset,
+            Some(unit.wrapping_add(past)),
+            "{q}, {transcoded} at {DISTANCE}"
+        );
+        let reads = t.take_reads();
+        let most = (DISTANCE as u64)
+            .wrapping_mul(2)
+            .wrapping_add(2)
+            .wrapping_add(digits);
+        assert!(rt; reads <= most, "{reads} words for byte {q} at {DISTANCE}");
+    }
+}
+
+/// The same at each byte of a scalar.
+fn check_bytes<const DISTANCE: usize>(
+    rt: &impl Abort,
+    t: &mut Sampled<DISTANCE>,
+    place: (u64, u64),
+    bytes: u64,
+    units: u64,
+    digits: u64,
+)
+    requires known { t.old.2 ≡ true }
+    requires some { 1 ≤ DISTANCE }
+    ensures { t.new ≡ t.old }
+{
+    let (p, unit) = place;
+    for byte in 0..bytes {
+        let begun = if byte == 0 { units } else { 0 };
+        check_byte(rt, t, p.wrapping_add(byte), unit, begun, digits);
+    }
+}
+
+/// Every offset and every index of a text are answered as a plain program counts them, within the bounds on words read.
+fn check_questions<const DISTANCE: usize>(
+    rt: &impl Abort,
+    alloc: Global,
+    text: &str,
+) -> Result<(), OutOfMemory>
+    requires { (1 ≤ DISTANCE) × (DISTANCE ≤ 4096) }
+{
+    let list = check_list::<DISTANCE>(rt, alloc, text)?;
+    let mut t = Sampled::<DISTANCE>::new(stored(alloc, text)?, list, true).expect(
+        rt,
+        "the list of {text:?} at {DISTANCE} fits",
+    );
+    let total = units_of(text);
+    let crumbs = total / DISTANCE as u64;
+    let digits = 64u32.wrapping_sub(crumbs.leading_zeros()) as u64;
+    let mut unit = 0;
+    for (p, scalar) in text.char_indices() {
+        let units = scalar.len_utf16() as u64;
+        let bytes = scalar.len_utf8() as u64;
+        check_units(rt, &mut t, p as u64, unit, units);
+        check_bytes(rt, &mut t, (p as u64, unit), bytes, units, digits);
+        unit = unit.wrapping_add(units);
+    }
+    check_units(rt, &mut t, text.len() as u64, unit, 1);
+    check_byte(rt, &mut t, text.len() as u64, unit, 0, digits);
+    assert!(rt; word_of_offset(&mut t, total.wrapping_add(1)).is_none());
+    Ok(())
+}
+
+#[test]
+fn every_offset_and_index_is_answered_from_a_crumb(rt: HostRuntime) -> Result<(), OutOfMemory> {
+    let alloc = rt.alloc();
+    for part in ["aé€😀", "😀😀a", "€\u{10FFFF}é"] {
+        let mut text = String::new(alloc);
+        for _ in 0..30 {
+            text.push_str(part)?;
+        }
+        check_questions::<64>(&rt, alloc, text.as_str())?;
+        check_questions::<3>(&rt, alloc, text.as_str())?;
+    }
+    Ok(())
+}
