@@ -81,7 +81,7 @@ is_built_op (op.At offset) = true
 is_built_op (op.Place offset) = true
 is_built_op (op.Slice a b) = true
 is_built_op (op.Edit a b with) = false
-is_built_op (op.Count view) = false
+is_built_op (op.Count view) = true
 is_built_op op.All = true
 
 abbrev pub are_built_ops : List Op → Bool

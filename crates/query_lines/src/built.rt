@@ -9,8 +9,8 @@ fn is_built_op(op: &Op) -> bool
     ensures { result ≡ is_built_op op.now }
 {
     match op {
-        Op::At(_) | Op::Place(_) | Op::Slice(_, _) | Op::All => true,
-        Op::Edit { .. } | Op::Count(_) => false,
+        Op::At(_) | Op::Place(_) | Op::Slice(_, _) | Op::Count(_) | Op::All => true,
+        Op::Edit { .. } => false,
     }
 }
 

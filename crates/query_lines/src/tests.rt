@@ -28,6 +28,7 @@ fn push_op(out: &mut String, op: &Op) -> Result<(), AllocError> {
     match op {
         Op::At(offset) => write!(out, " at {offset}"),
         Op::Place(offset) => write!(out, " place {offset}"),
+        Op::Count(view) => write!(out, " count {view:?}"),
         Op::Slice(a, b) => write!(out, " slice {a} {b}"),
         Op::All => write!(out, " text"),
         _ => write!(out, " (an op that isn't built)"),
@@ -149,14 +150,8 @@ fn lines_are_read_by_the_rows_of_the_table(rt: HostRuntime) -> Result<(), Fail> 
             "not built",
         ),
         (
-            "{\"on\":\"a\",\"do\":[{\"count\":\"scalars\"}]}",
-            "not built",
-        ),
-        ("{\"on\":\"a\",\"do\":[{\"count\":\"utf8\"}]}", "not built"),
-        ("{\"on\":\"a\",\"do\":[{\"count\":\"utf16\"}]}", "not built"),
-        (
-            "{\"on\":\"a\",\"do\":[{\"count\":\"characters\"}]}",
-            "not built",
+            "{\"on\":\"a\",\"do\":[{\"count\":\"scalars\"},{\"count\":\"utf8\"},{\"count\":\"utf16\"},{\"count\":\"characters\"}]}",
+            "on a count Scalars count Utf8 count Utf16 count Characters",
         ),
     ] {
         assert_eq!(rt;
