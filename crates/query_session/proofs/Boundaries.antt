@@ -8,7 +8,7 @@ use Rattle.text_spec.specs.Boundaries.{IsScalarBoundary}
 use Rattle.text_spec.specs.Offsets.{start, down}
 use Rattle.text_spec.specs.Rounding.{Place, across}
 use Rattle.text_spec.specs.Text.{utf8, utf16}
-use Rattle.text_spec.specs.Views.{width_in, other_width, size_in}
+use Rattle.text_spec.specs.Views.{width_in, other_width, size_in, part}
 use Rattle.text_spec.proofs.Bytes.{length-utf8}
 use Rattle.text_spec.proofs.Downward.{down-length, start-down, down-greatest}
 use Rattle.text_spec.proofs.Lengths.{start-utf16}
@@ -135,3 +135,7 @@ pub boundary-in-utf16 : (e : Encoding) (t : List ℕ) (place other : ℕ) → e 
 boundary-in-utf16 Utf16 t place other same is o =
     record { inside = down-length (width_in Utf16) t place; place = sym is; utf16 = sym is; utf8 = o }
 boundary-in-utf16 Utf8 t place other same is o = absurd (let clash : Utf8 ≡ Utf16 = same in cc)
+
+-- the part from the first scalar to the end is the text
+pub whole-part : (t : List ℕ) → part t 0 (length t) ≡ t
+whole-part t = take_all (length t - 0) t (omega arith)

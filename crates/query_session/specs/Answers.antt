@@ -6,6 +6,7 @@ use Rattle.text_spec.specs.declared.encoding.Encoding.{Encoding}
 use Rattle.text_spec.specs.declared.encoding.Encoding.TheVariants.{Utf8, Utf16}
 use Rattle.text_spec.specs.Offsets.{down}
 use Rattle.text_spec.specs.Views.{width_in, part}
+use Rattle.char_view.specs.Characters.{character_count}
 use Rattle.query_lines.specs.declared.op.Op.{Op}
 use Rattle.query_lines.specs.declared.op.Op.TheVariants as op
 use Rattle.query_lines.specs.declared.op.View.{View}
@@ -56,6 +57,13 @@ slice_reply text spent a b =
     else if nat_lt b a then out_of_bounds Utf16 text
     else text_reply spent (part text (floor Utf16 text a) (floor Utf16 text b))
 
+-- how many elements a view of the text has
+abbrev pub count_in : View → List ℕ → ℕ
+count_in view.Scalars text = length text
+count_in view.Utf8 text = length (utf8 text)
+count_in view.Utf16 text = length (utf16 text)
+count_in view.Characters text = character_count text
+
 -- the answer to one op, or none where the op isn't built: a line with such an op is refused whole
 abbrev pub op_reply : List ℕ → ℕ → Op → Option OpReply
 op_reply text spent (op.At offset) = Some (place_reply Utf16 text offset)
@@ -63,7 +71,7 @@ op_reply text spent (op.Place offset) = Some (place_reply Utf8 text offset)
 op_reply text spent (op.Slice a b) = Some (slice_reply text spent a b)
 op_reply text spent op.All = Some (text_reply spent text)
 op_reply text spent (op.Edit a b with) = None
-op_reply text spent (op.Count view) = None
+op_reply text spent (op.Count view) = Some (answer.Number (count_in view text))
 
 -- how many bytes of text an answer carries
 abbrev pub text_bytes : OpReply → ℕ

@@ -1,7 +1,6 @@
 //! What ops answer on a text.
-ghost use Rattle.std.specs.Prelude.{◌≡◌, ◌+◌, ◌≤◌, true, length, All, IfOk, Some};
+ghost use Rattle.std.specs.Prelude.{◌≡◌, ◌+◌, ◌≤◌, true, All, IfOk, Some};
 ghost use Rattle.text_spec.specs.Boundaries.{IsScalarBoundary};
-ghost use Rattle.text_spec.specs.Text.{utf8};
 ghost use Rattle.text_spec.specs.Views.{width_in};
 ghost use Rattle.query_lines.specs.Commands.{is_built_op, are_built_ops};
 ghost use Rattle.query_lines.specs.Replies.{IsShownOp};
@@ -9,12 +8,14 @@ ghost use Rattle.str_value.specs.Meaning.{storage_of, text_between};
 ghost use Rattle.query_session.specs.Answers as answers;
 
 use crate::place::{boundary_at, place_at, scalar_from};
+use char_view::characters;
 use query_lines::{Bytes, Op, OpReplies, OpReply, View};
 use std::alloc::Global;
 use std::marker::Brand;
 use std::sync::ledger::{Blank, Ledger};
 use str_value::Str;
 use text_spec::{Encoding, OutOfMemory};
+use unit_views::{scalars, utf8};
 use utf16_view::utf16;
 use word_units::{Steps, Text};
 
@@ -81,8 +82,21 @@ fn answer<L: Ledger>(
         Op::Place(offset) => Ok(answer_place(text, Encoding::Utf8, *offset, steps)),
         Op::Slice(a, b) => answer_slice(alloc, text, spent, *a, *b, steps),
         Op::All => answer_whole(alloc, text, spent),
+        Op::Count(view) => Ok(OpReply::Number(count(text, *view, steps))),
         Op::Edit { .. } => unreachable!(),
-        Op::Count(_) => unreachable!(),
+    }
+}
+
+// The number of a view's elements.
+fn count<L: Ledger>(text: &mut Str, view: View, steps: &mut Steps<L>) -> u64
+    ensures value { result ≡ answers.count_in view text.old.text }
+    ensures kept { text.new ≡ text.old }
+{
+    match view {
+        View::Scalars => scalars::count(text, steps),
+        View::Utf8 => utf8::count(text, steps),
+        View::Utf16 => utf16::count(text, steps),
+        View::Characters => characters::count(text, steps),
     }
 }
 

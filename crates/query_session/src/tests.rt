@@ -121,6 +121,18 @@ fn texts_of_units_get_the_replies_worked_out_by_hand(rt: HostRuntime) -> Result<
             r#"{"on":"x","do":[{"at":64},{"place":{"utf8":129}},{"at":127},{"slice":[62,65]}]}"#,
             r#"{"results":[{"utf16":63,"utf8":126,"value":128512},{"utf16":63,"utf8":126,"value":128512},{"utf16":127,"utf8":254,"value":233},{"text":"é😀"}]}"#,
         ),
+        (
+            r#"{"on":"x","do":[{"count":"scalars"},{"count":"utf8"},{"count":"utf16"},{"count":"characters"}]}"#,
+            r#"{"results":[{"count":127},{"count":256},{"count":128},{"count":127}]}"#,
+        ),
+        (
+            r#"{"load":"f","units":[55356,56809,55356,56810,55356,56811,55356,56823,97,769]}"#,
+            r#"{"scalars":6,"utf16":10,"utf8":19}"#,
+        ),
+        (
+            r#"{"on":"f","do":[{"count":"scalars"},{"count":"utf8"},{"count":"utf16"},{"count":"characters"}]}"#,
+            r#"{"results":[{"count":6},{"count":19},{"count":10},{"count":3}]}"#,
+        ),
     ];
     let mut session = Session::new(rt.alloc(), Pass::none(), 1)?;
     for (line, wanted) in rows {
