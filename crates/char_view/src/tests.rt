@@ -183,46 +183,50 @@ fn floor_of(bounds: &[u64], position: u64) -> u32 {
     k
 }
 
-/// Compares the calls with the plain program at each place of a text.
-fn check_with<L: Ledger>(
-    rt: &impl Abort,
+/// The first place at which the calls don't answer what the plain program does; for the number of Characters and the two ends that
+/// behind the last place.
+fn first_wrong_with<L: Ledger>(
     t: &mut VecText,
     bounds: &[u64],
     encoding: Encoding,
-    name: &str,
     blank: Blank,
-)
+) -> Option<u64>
     requires name { blank.name ≡ L.name }
     requires parts { blank.parts ≡ L.parts }
     requires one { blank.parts ≡ 1 }
 {
     let mut steps = Steps::<L>::from_blank(blank);
-    let last = bounds.len().saturating_sub(1) as u64;
     let end = bounds.last().copied().unwrap_or(0);
-    assert_eq!(rt; characters::count(t, &mut steps), last, "{name}");
-    assert_eq!(rt;
+    let last = bounds.len().saturating_sub(1) as u64;
+    let ends = (
+        characters::count(t, &mut steps),
         characters::start(t, &mut steps).bits(),
-        wanted(bounds, 0, encoding),
-        "{name}"
-    );
-    assert_eq!(rt;
         characters::end(t).bits(),
-        wanted(bounds, floor_of(bounds, end), encoding),
-        "{name}"
     );
+    let wanted_ends = (
+        last,
+        wanted(bounds, 0, encoding),
+        wanted(bounds, floor_of(bounds, end), encoding),
+    );
+    if ends != wanted_ends {
+        return Some(end.saturating_add(1));
+    }
+    // Each place of the last ones, and before these each sixteenth.
     for position in 0..end.saturating_add(1) {
+        if position.saturating_add(6) < end && position % 16 > 0 {
+            continue;
+        }
         let k = floor_of(bounds, position);
         let got = words_at(t, position, i64::from(k), &mut steps);
-        assert_eq!(rt;
-            got,
-            plain_words(bounds, k, encoding),
-            "{name} at {position}"
-        );
+        if got != plain_words(bounds, k, encoding) {
+            return Some(position);
+        }
     }
+    None
 }
 
-fn check_text(rt: &impl Abort, t: &mut VecText, bounds: &[u64], encoding: Encoding, name: &str) {
-    check_with::<Brand>(rt, t, bounds, encoding, name, Blank::new(1));
+fn first_wrong(t: &mut VecText, bounds: &[u64], encoding: Encoding) -> Option<u64> {
+    first_wrong_with::<Brand>(t, bounds, encoding, Blank::new(1))
 }
 
 /// A text in both encodings.
@@ -230,10 +234,18 @@ fn check(rt: &impl Abort, alloc: Global, text: &str) -> Result<(), OutOfMemory> 
     let (bytes, units) = plain_bounds(alloc, text)?;
     let words = pack8(alloc, text)?;
     let mut utf8 = text8(alloc, words, text.len() as u64)?.expect(rt, "{text:?} is UTF-8");
-    check_text(rt, &mut utf8, bytes.as_slice(), Encoding::Utf8, text);
+    assert_eq!(rt;
+        first_wrong(&mut utf8, bytes.as_slice(), Encoding::Utf8),
+        None,
+        "{text:?} in UTF-8"
+    );
     let (words, count) = pack16(alloc, text)?;
     let mut utf16 = text16(words, count).expect(rt, "there are so many units");
-    check_text(rt, &mut utf16, units.as_slice(), Encoding::Utf16, text);
+    assert_eq!(rt;
+        first_wrong(&mut utf16, units.as_slice(), Encoding::Utf16),
+        None,
+        "{text:?} in UTF-16"
+    );
     Ok(())
 }
 
@@ -281,10 +293,8 @@ fn characters_lie_over_the_edges_of_pieces(rt: HostRuntime) -> Result<(), OutOfM
     for unit in [
         "🇩🇪🇫🇷",
         "👨\u{200D}👩\u{200D}👧",
-        "e\u{301}\u{301}",
-        "\r\n",
-        "क्षि",
-        "\u{1100}\u{1161}\u{11A8}",
+        "e\u{301}\u{301}\r\n",
+        "क्षि\u{1100}\u{1161}\u{11A8}",
     ] {
         for pad in 0..65 {
             let text = repeated(alloc, "", "x", pad, unit)?;
@@ -297,15 +307,19 @@ fn characters_lie_over_the_edges_of_pieces(rt: HostRuntime) -> Result<(), OutOfM
 #[test]
 fn marks_and_flags_in_any_number(rt: HostRuntime) -> Result<(), OutOfMemory> {
     let alloc = rt.alloc();
-    for count in 1..67 {
+    for count in 1..41 {
         let text = repeated(alloc, "e", "\u{301}", count, "x")?;
-        check(&rt, alloc, text.as_str())?;
-        let text = repeated(alloc, "é", "\u{301}", count, "")?;
         check(&rt, alloc, text.as_str())?;
         let text = repeated(alloc, "", "🇩", count, "x")?;
         check(&rt, alloc, text.as_str())?;
     }
-    Ok(())
+    // Characters of 63, 64 and 65 units, in either encoding.
+    for count in [61, 62, 63, 64] {
+        let text = repeated(alloc, "e", "\u{301}", count, "x")?;
+        check(&rt, alloc, text.as_str())?;
+    }
+    let text = repeated(alloc, "é", "\u{301}", 31, "x")?;
+    check(&rt, alloc, text.as_str())
 }
 
 /// The number of Characters, and the words of the start, of the index behind it and of the one before the end.
