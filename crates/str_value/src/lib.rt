@@ -1,9 +1,10 @@
-//! The value: a text of Unicode scalars that names denote, made from UTF-8 bytes and given back to its pass.
+//! The value: a text of Unicode scalars that names denote, made from UTF-8 bytes or UTF-16 units and given back to its pass.
 //!
-//! A `Str` is seen by contracts as its text, a list of scalars, and as its form. Its storage is UTF-8 (the Unicode Standard,
-//! chapter 3): a text of at most 15 bytes is Small and stands in the two words of its `Object`, a longer one is Owned and has a
-//! vector of its own. No shared storage is built yet, so a `Pass` shows no free slot, no credit and no literal. The lifetime `'h`
-//! is that of the heap that values will be stored in.
+//! A `Str` is seen by contracts as its text, a list of scalars, and as the row of its two words and its content words. A text made
+//! from UTF-8 (the Unicode Standard, section 3.9) of at most 15 bytes is Small and stands in the words of its `Object`; a longer
+//! one is Owned, with its bytes in a vector, and one made from UTF-16 is Owned with its units, surrogates without their other half
+//! among them. A `Str` is a `Text`, read word by word. No shared storage is built yet, so a `Pass` shows no free slot, no credit
+//! and no literal. The lifetime `'h` is that of the heap that values will be stored in.
 //!
 //! Meaning: `specs/Meaning.antt`. Start at `value.rt`.
 #![tactic(auto)]

@@ -1,6 +1,5 @@
 //! The value and its calls.
-ghost use Rattle.std.specs.Prelude.{◌≡◌, ◌≢◌, ℕ, ◌<◌, ◌≤◌, ◌↔◌, true, false, length, slice_index, slice_range, chars, IfOk, IfErr, IsSome, IfSome, IsUtf8};
-ghost use Rattle.std.specs.Str.{all_scalars};
+ghost use Rattle.std.specs.Prelude.{◌≡◌, ◌≢◌, ℕ, ◌<◌, ◌≤◌, ◌↔◌, false, length, slice_range, chars, IfOk, IfErr, IsSome, IfSome, IsUtf8};
 ghost use Rattle.std.specs.Str.Lossy.{utf8_valid_len};
 ghost use Rattle.text_spec.specs.Text.{utf8, utf16, repair};
 ghost use Rattle.object_words.specs.Rows.{Describes, form_of};
