@@ -61,12 +61,21 @@ def questions(by_units):
     return "\n".join(lines) + "\n"
 
 
+def counts():
+    """A mixed text of 60 KB, then three lines of 100 counts of its Characters."""
+    lines = [line({"load": "doc", "text": mixed_text(60_000)})]
+    for _ in range(3):
+        lines.append(line({"on": "doc", "do": [{"count": "characters"}] * 100}))
+    return "\n".join(lines) + "\n"
+
+
 folder = sys.argv[1]
 for name, text in (
     ("small_loads", small_loads(4_000_000)),
     ("one_load", one_load()),
     ("questions", questions(False)),
     ("questions_units", questions(True)),
+    ("counts", counts()),
     ("small_loads_twice", small_loads(8_000_000)),
 ):
     with open(f"{folder}/{name}.jsonl", "w", encoding="utf-8") as out:
