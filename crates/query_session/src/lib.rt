@@ -12,5 +12,7 @@ mod place;
 mod session;
 #[cfg(test)]
 mod tests;
+#[cfg(test)]
+mod view_tests;
 
 pub use session::Session;
