@@ -1,5 +1,5 @@
 //! References of one slot, retained and released.
-ghost use Rattle.std.specs.Prelude.{◌≡◌, IfSome};
+ghost use Rattle.std.specs.Prelude.{◌≡◌};
 
 use crate::pairs::{Anything, LAYOUT, stored};
 use anyhow::Result;

@@ -1,5 +1,5 @@
 -- A draft is joined into a reference, and what is left is cut off again as a share.
-use Rattle.std.proofs.Common.{◌≡◌, ℕ, ◌+◌, ◌≤◌, inl, inr, List, [], Option, Some, None, refl, sym, ◌∙◌, subst, arith}
+use Rattle.std.proofs.Common.{◌≡◌, ℕ, ◌≤◌, inl, inr, List, [], Some, None, refl, sym, ◌∙◌, subst, arith}
 use Rattle.atomic_table.specs.Table.{Splits, Joins}
 use Rattle.atomic_table.proofs.Lists.{set_else}
 use Rattle.slot_model.specs.declared.layout.Layout.{Layout}

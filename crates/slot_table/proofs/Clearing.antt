@@ -1,5 +1,5 @@
 -- A sole reference takes its slot's side away, and the side's slot is free then.
-use Rattle.std.proofs.Common.{◌≡◌, ◌≢◌, ◌⊎◌, inl, inr, ⊎_elim, ℕ, zero, suc, ◌+◌, ◌<◌, ◌≤◌, true, List, [], ◌∷◌, ◌++◌, length, get_or, set, Option, Some, None, refl, sym, ap, ◌∙◌, subst, arith, get_or-set_same, get_or-set_other, append-nil, length-set}
+use Rattle.std.proofs.Common.{◌≡◌, ◌≢◌, inr, ⊎_elim, ℕ, zero, suc, ◌+◌, ◌<◌, ◌≤◌, true, List, [], ◌∷◌, get_or, set, Option, Some, None, refl, sym, ap, ◌∙◌, subst, arith, get_or-set_same, get_or-set_other, append-nil, length-set}
 use mathlib.Core.Option.{some, none}
 use mathlib.Core.Logic.{dite}
 use native.Mathlib.Decide.{ℕ_discrete}
@@ -9,7 +9,7 @@ use Rattle.atomic_table.proofs.Lists.{set_here}
 use Rattle.slot_model.specs.declared.event.Event.{Event}
 use Rattle.slot_model.specs.declared.event.Event.TheVariants.{Detach}
 use Rattle.slot_model.specs.declared.layout.Layout.{Layout}
-use Rattle.slot_model.specs.History.{Slot, Heap, idle, held, side_of, at, next, detached, count_of, words_of, side_in, idle_in, closing_in, heap_after, Paired, Applies, Legal}
+use Rattle.slot_model.specs.History.{Slot, Heap, idle, held, side_of, at, next, detached, count_of, words_of, side_in, idle_in, closing_in, heap_after, Paired, Applies}
 use Rattle.slot_model.proofs.Runs.{length-heap_after, heap_after-snoc, at-set, at-set_else}
 use Rattle.slot_model.proofs.Sides.{paired_after, side_below}
 use Rattle.slot_table.specs.declared.view.View.{View}

@@ -1,5 +1,5 @@
 -- A draft becomes its slot's side, where there was none.
-use Rattle.std.proofs.Common.{◌≡◌, ◌≢◌, ◌⊎◌, ⊎_elim, ℕ, zero, suc, ◌+◌, ◌<◌, ◌≤◌, Bool, true, false, true≢false, List, [], ◌∷◌, ◌++◌, length, get_or, set, Option, Some, None, refl, sym, ap, ◌∙◌, subst, arith, get_or-set_same, get_or-set_other, append-nil, length-set}
+use Rattle.std.proofs.Common.{◌≡◌, ◌≢◌, ⊎_elim, ℕ, suc, ◌+◌, ◌<◌, ◌≤◌, true≢false, List, [], get_or, set, Option, Some, None, refl, sym, ap, ◌∙◌, subst, arith, get_or-set_same, get_or-set_other, append-nil, length-set}
 use mathlib.Core.Option.{some}
 use mathlib.Core.Logic.{dite}
 use native.Mathlib.Decide.{ℕ_discrete}
@@ -8,7 +8,7 @@ use Rattle.atomic_table.specs.Table.{State}
 use Rattle.slot_model.specs.declared.event.Event.{Event}
 use Rattle.slot_model.specs.declared.event.Event.TheVariants.{Install}
 use Rattle.slot_model.specs.declared.layout.Layout.{Layout}
-use Rattle.slot_model.specs.History.{Slot, Heap, idle, held, closing, side_of, at, next, sided, count_of, words_of, side_in, idle_in, closing_in, heap_after, Paired, Applies}
+use Rattle.slot_model.specs.History.{Slot, Heap, idle, held, closing, side_of, at, sided, count_of, words_of, side_in, idle_in, closing_in, heap_after, Paired, Applies}
 use Rattle.slot_model.proofs.Runs.{length-heap_after, heap_after-snoc, at-set, at-set_else}
 use Rattle.slot_model.proofs.Sides.{paired_after}
 use Rattle.slot_table.specs.declared.view.View.{View}

@@ -1,5 +1,5 @@
 -- Rows of literals, and reading lists of texts by number.
-use Rattle.std.proofs.Common.{◌≡◌, ℕ, zero, suc, ◌+◌, ◌<◌, ◌≤◌, length, MatchBool, Bool, true, false, List, [], ◌∷◌, ◌++◌, get_or, take, Some, None, slice_get, refl, sym, ap, ◌∙◌, arith, append_assoc, append-nil, ltb, ◌&&◌, slice_index, lt-ltb}
+use Rattle.std.proofs.Common.{◌≡◌, ℕ, zero, suc, ◌<◌, ◌≤◌, length, MatchBool, Bool, true, false, List, [], ◌∷◌, ◌++◌, get_or, take, Some, None, slice_get, refl, sym, ap, ◌∙◌, arith, append_assoc, append-nil, ltb, ◌&&◌, slice_index, lt-ltb}
 use Rattle.std.proofs.lemmas.Bool.Decides.{nat_tests}
 use Rattle.std.specs.Str.{IsAscii, IsNotAscii}
 use Rattle.slot_table.specs.Literals.{is_ascii, literal_row, rows_of}

@@ -1,5 +1,5 @@
 -- Where every place is one owner's, the history has that owner's events alone, in their order.
-use Rattle.std.proofs.Common.{◌≡◌, ℕ, zero, suc, ◌+◌, ◌<◌, ◌≤◌, ⊎_elim, List, [], ◌∷◌, ◌++◌, length, set, replicate, ltb, cond, true, Option, None, refl, sym, ap, ◌∙◌, subst, arith, length-append, length-set, lt-ltb}
+use Rattle.std.proofs.Common.{◌≡◌, ℕ, zero, suc, ◌<◌, ◌≤◌, ⊎_elim, List, [], ◌∷◌, ◌++◌, length, set, replicate, ltb, cond, true, Option, None, refl, sym, ap, ◌∙◌, subst, arith, length-append, length-set, lt-ltb}
 use Rattle.std.proofs.lemmas.List.{length-replicate}
 use Rattle.std.proofs.lemmas.Bool.Decides.{nat_tests}
 use mathlib.Core.List.{IsPrefix}

@@ -1,5 +1,5 @@
 -- A draft is offered as its slot's side: it becomes that, or the reference learns the side that is there.
-use Rattle.std.proofs.Common.{◌≡◌, ℕ, zero, suc, ◌+◌, ◌-◌, ◌<◌, ◌≤◌, eqb, true, true≢false, List, [], ◌∷◌, ◌++◌, length, get_or, set, Option, Some, None, refl, sym, ap, ◌∙◌, subst, arith, append-nil}
+use Rattle.std.proofs.Common.{◌≡◌, ℕ, zero, suc, ◌-◌, ◌<◌, ◌≤◌, eqb, true, true≢false, List, [], ◌∷◌, ◌++◌, length, get_or, Some, None, refl, sym, ap, ◌∙◌, subst, arith, append-nil}
 use Rattle.std.specs.Prelude.{IfSome}
 use prog.Atomic.{either}
 use mathlib.Core.Option.{some, none}
@@ -9,7 +9,7 @@ use Rattle.atomic_table.proofs.Lists.{exchanged}
 use Rattle.slot_model.specs.declared.event.Event.{Event}
 use Rattle.slot_model.specs.declared.event.Event.TheVariants.{Install}
 use Rattle.slot_model.specs.declared.layout.Layout.{Layout}
-use Rattle.slot_model.specs.History.{Slot, Heap, idle, at, count_of, words_of, side_in, heap_after, Applies, Legal}
+use Rattle.slot_model.specs.History.{Heap, idle, at, count_of, side_in, heap_after, Applies, Legal}
 use Rattle.slot_model.proofs.Runs.{heap_after-snoc}
 use Rattle.slot_table.specs.declared.view.View.{View}
 use Rattle.slot_table.specs.declared.view.Role.TheVariants.{Reference}
@@ -26,7 +26,7 @@ use Rattle.slot_table.proofs.Below.{below-adds}
 use Rattle.slot_table.proofs.DetachingBoth.{found-crumb}
 use Rattle.slot_table.proofs.Unchanging.{Glance, glances}
 use Rattle.slot_table.proofs.Seeing.{some_side, found_known, found_below}
-use Rattle.slot_table.proofs.Installing.{won, won_applies, wins}
+use Rattle.slot_table.proofs.Installing.{won_applies, wins}
 
 module _ (fits : List ℕ → List ℕ → Type 0) (k : Layout) (ls : List (List ℕ)) (u : View) (d : ℕ) where
   abbrev v : View

@@ -1,13 +1,12 @@
 -- A reference loads its slot's crumb word, and learns the side.
-use Rattle.std.proofs.Common.{◌≡◌, ℕ, zero, suc, ◌+◌, ◌<◌, ◌≤◌, true, List, [], ◌∷◌, ◌++◌, length, get_or, Option, Some, None, refl, sym, ap, ◌∙◌, subst, arith, append-nil}
+use Rattle.std.proofs.Common.{◌≡◌, ℕ, suc, ◌<◌, ◌≤◌, true, List, [], ◌∷◌, ◌++◌, length, get_or, Option, Some, None, refl, sym, ap, ◌∙◌, subst, arith, append-nil}
 use Rattle.std.specs.Prelude.{IfSome}
 use mathlib.Core.Option.{some, none}
 use lib.ListN.{get_elem?}
 use Rattle.atomic_table.specs.Table.{State, Step, step, keeps, Allows}
-use Rattle.slot_model.specs.declared.event.Event.{Event}
 use Rattle.slot_model.specs.declared.event.Event.TheVariants.{Look}
 use Rattle.slot_model.specs.declared.layout.Layout.{Layout}
-use Rattle.slot_model.specs.History.{Slot, Heap, at, count_of, words_of, side_in, heap_after, Applies, Legal}
+use Rattle.slot_model.specs.History.{Heap, at, count_of, words_of, side_in, heap_after, Applies}
 use Rattle.slot_model.proofs.Runs.{length-heap_after, heap_after-snoc}
 use Rattle.slot_model.proofs.Sides.{paired_after, side_below}
 use Rattle.slot_table.specs.declared.view.View.{View}

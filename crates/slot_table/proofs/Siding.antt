@@ -1,13 +1,12 @@
 -- What contracts see of a reference and a pass after an install, and after a side was taken away.
-use Rattle.std.proofs.Common.{◌≡◌, ℕ, zero, suc, ◌+◌, ◌-◌, ◌≤◌, List, [], ◌∷◌, ◌++◌, length, Option, Some, None, true, false, refl, sym, ap, ◌∙◌, subst, arith, append-nil}
+use Rattle.std.proofs.Common.{◌≡◌, ℕ, zero, suc, ◌+◌, ◌-◌, List, [], ◌∷◌, ◌++◌, Some, None, refl, sym, ap, ◌∙◌, subst, arith, append-nil}
 use mathlib.Core.List.{IsPrefix}
 use Rattle.slot_model.specs.declared.event.Event.{Event}
-use Rattle.slot_model.specs.declared.event.Event.TheVariants.{Install, Detach}
 use Rattle.slot_model.specs.declared.layout.Layout.{Layout}
 use Rattle.slot_model.specs.History.{at, words_of, heap_after, Legal}
 use Rattle.slot_table.specs.declared.view.View.{View}
-use Rattle.slot_table.specs.Owners.{HeapId, PassSeen, DraftSeen, RefSeen, Joined, Offered, TakenAway, offered_back, side_slots}
-use Rattle.slot_table.specs.Steps.{recorded, found_in, number_in, opening, beside, met_share, met_reference}
+use Rattle.slot_table.specs.Owners.{HeapId, PassSeen, DraftSeen, RefSeen, Joined, Offered, TakenAway}
+use Rattle.slot_table.specs.Steps.{recorded, found_in, opening, beside, met_share, met_reference}
 use Rattle.slot_table.specs.ReferenceSteps.{armed, installing, placed, unarmed, change, cleared}
 use Rattle.slot_table.specs.Ties.{pass_seen, draft_seen, ref_seen, loose_seen}
 use Rattle.slot_table.proofs.Fronts.{both_prefix, longer_one}

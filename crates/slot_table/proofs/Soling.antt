@@ -1,5 +1,5 @@
 -- A reference loads its count, and learns whether it is the only one.
-use Rattle.std.proofs.Common.{◌≡◌, ℕ, ◌≤◌, eqb, true, List, [], ◌∷◌, ◌++◌, get_or, None, refl, sym, ap, ◌∙◌, subst, arith, append-nil, eq-eqb, eqb-true}
+use Rattle.std.proofs.Common.{◌≡◌, ℕ, ◌≤◌, eqb, true, List, [], get_or, None, refl, sym, ap, ◌∙◌, subst, arith, append-nil, eq-eqb, eqb-true}
 use mathlib.Core.Option.{some, none}
 use lib.ListN.{get_elem?}
 use Rattle.atomic_table.specs.Table.{State, Step, step, keeps, Allows}

@@ -10,7 +10,7 @@ use Rattle.slot_model.specs.History.{Heap, idle, at, next, Applies, heap_after}
 use Rattle.slot_table.specs.declared.view.View.{View}
 use Rattle.slot_table.specs.Seats.{weight_on, closing_on, free_on}
 use Rattle.slot_table.specs.Holdings.{IsActive, SlotOk, SeatOk, RoleOk, DraftOk, Holds}
-use Rattle.slot_table.proofs.Turns.{turned, Same, total_same, OwesOne, turn_one}
+use Rattle.slot_table.proofs.Turns.{turned, Same, total_same, turn_one}
 
 module _ (fits : List ℕ → List ℕ → Type 0) (k : Layout) (ls : List (List ℕ)) (s : State ℕ View) (r : Holds fits k ls s) (id x o : ℕ) (v w : View) (e : Event) where
   abbrev h : Heap

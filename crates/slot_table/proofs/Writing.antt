@@ -1,10 +1,10 @@
 -- A bare reference stores a word into its slot.
-use Rattle.std.proofs.Common.{◌≡◌, ◌≢◌, ℕ, zero, suc, ◌+◌, ◌-◌, ◌*◌, ◌<◌, ◌≤◌, cond, true, List, [], ◌∷◌, ◌++◌, length, get_or, set, Option, Some, None, refl, sym, ap, ◌∙◌, subst, arith, get_or-set_same, get_or-set_other, append-nil, eq-eqb, ne_eqb, length-append, length-set}
+use Rattle.std.proofs.Common.{◌≡◌, ◌≢◌, ℕ, ◌+◌, ◌-◌, ◌*◌, ◌<◌, ◌≤◌, cond, true, List, [], ◌∷◌, ◌++◌, length, get_or, set, Option, Some, None, refl, sym, ap, ◌∙◌, subst, arith, get_or-set_same, get_or-set_other, append-nil, eq-eqb, ne_eqb, length-append, length-set}
 use mathlib.Core.Option.{some, none}
 use mathlib.Core.Logic.{dite}
 use native.Mathlib.Decide.{ℕ_discrete}
 use lib.ListN.{get_elem?}
-use Rattle.atomic_table.specs.Table.{State, Step, step, keeps, Allows}
+use Rattle.atomic_table.specs.Table.{State, step, keeps, Allows}
 use Rattle.slot_model.specs.declared.event.Event.{Event}
 use Rattle.slot_model.specs.declared.event.Event.TheVariants.{Write}
 use Rattle.slot_model.specs.declared.layout.Layout.{Layout}

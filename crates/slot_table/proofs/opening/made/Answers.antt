@@ -4,7 +4,7 @@ use Rattle.slot_table.specs.Literals.{first_table, zeros, rows_of, row_starts}
 use Rattle.std.proofs.lemmas.List.{length-replicate}
 use Rattle.slot_table.specs.Addresses.{size_of}
 use Rattle.slot_table.specs.Steps.{first_view}
-use Rattle.slot_table.specs.Ties.{IsWhole, IsHeap}
+use Rattle.slot_table.specs.Ties.{IsWhole}
 use Rattle.slot_table.proofs.Reciting.{rows_within}
 use Rattle.slot_table.proofs.Ending.{begins, first_all}
 use Rattle.slot_table.proofs.opening.made.Goals as goal

@@ -1,4 +1,4 @@
-use Rattle.std.proofs.Common.{rules, ◌≡◌, ◌+◌, ◌<◌, ◌≤◌, ℕ, List, length, get_or, sym, ap, ◌∙◌, subst, arith}
+use Rattle.std.proofs.Common.{rules, ◌≡◌, ◌+◌, ◌<◌, ℕ, List, length, get_or, sym, ap, ◌∙◌, subst, arith}
 use Rattle.slot_model.specs.declared.layout.Layout.{Layout}
 use Rattle.slot_table.specs.Addresses.{size_of}
 use Rattle.slot_table.specs.Literals.{rows_of, row_start, row_words}

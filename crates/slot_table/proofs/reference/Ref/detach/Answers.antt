@@ -1,4 +1,4 @@
-use Rattle.std.proofs.Common.{rules, ◌≡◌, ◌+◌, ◌≤◌, ℕ, suc, true, List, [], ◌∷◌, ◌++◌, length, Some, None, refl, sym, ap, ◌∙◌, subst, arith, length-append}
+use Rattle.std.proofs.Common.{rules, ◌≡◌, ◌+◌, ℕ, suc, true, [], ◌∷◌, ◌++◌, length, refl, sym, ap, ◌∙◌, subst, arith, length-append}
 use mathlib.Core.List.{IsPrefix}
 use Rattle.slot_model.specs.declared.layout.Layout.{Layout}
 use Rattle.slot_model.specs.History.{Legal}
@@ -14,7 +14,7 @@ use Rattle.slot_table.proofs.Clearing.{clears_allowed, cleared-keeps}
 use Rattle.slot_table.proofs.Counting.{once_length}
 use Rattle.slot_table.proofs.Offering.{found_none, found_some}
 use Rattle.slot_table.proofs.Fronts.{both_prefix}
-use Rattle.slot_table.proofs.Tying.{tied_on, is_pass_by, is_ref_by}
+use Rattle.slot_table.proofs.Tying.{tied_on, is_pass_by}
 use Rattle.slot_table.proofs.Referring.{pass_bare, pass_cleared}
 use Rattle.slot_table.proofs.Siding.{taken_away}
 use Rattle.slot_table.proofs.reference.Ref.detach.Goals as goal
