@@ -1,7 +1,8 @@
 pub mod Crumbing
+pub mod Indexed
 pub mod Seeing
 pub mod Growing
 pub mod Windows
 pub mod Matching
 pub mod Walks
-mod Sampling
+pub mod Sampling

@@ -1,5 +1,5 @@
 //! What no clause says: that each call answers at a concrete type, and the lists of texts written out by hand and by a plain program.
-ghost use Rattle.std.specs.Prelude.{◌≡◌, true, ◌+◌, ◌/◌, ◌<◌, ◌≤◌, [], ◌++◌, length, IfOk, IfSome};
+ghost use Rattle.std.specs.Prelude.{◌≡◌, true, ◌+◌, ◌/◌, ◌<◌, ◌≤◌, [], ◌++◌, length, IsSome, IfOk, IfSome};
 ghost use Rattle.std.specs.Option.{unwrap_or};
 ghost use Rattle.text_spec.specs.Crumbs.{size16, crumbs};
 ghost use Rattle.text_spec.specs.declared.encoding.Encoding.TheVariants.{Utf8};
@@ -73,19 +73,30 @@ fn plain_word(position: u64, past: u64) -> u64 {
     position.wrapping_shl(16) | past.wrapping_shl(14) | if past == 0 { 5 } else { 4 }
 }
 
-/// The words of a published slot.
-fn copied<A: Attach>(
+/// Words are written into a draft.
+fn fill<A: Attach>(draft: &mut Draft<'_, A>, words: &[u64])
+    requires { length draft.old.written + length words.now ≤ draft.old.heap.layout.capacity_words }
+    ensures { draft.new ≡ record draft.old { written = draft.old.written ++ words.now } }
+{
+    for k in 0..words.len() {
+        draft.write(words[k]);
+    }
+}
+
+/// The words of a slot's side.
+fn side_of<A: Attach>(
     alloc: Global,
     reference: &mut Ref<'_, A>,
     len: u32,
 ) -> Result<Vec<u64>, OutOfMemory>
-    requires { len ≡ length reference.old.known }
-    ensures words { IfOk result (λ words. words.items ≡ reference.old.known) }
+    requires side { IsSome reference.old.side }
+    requires all { len ≡ length reference.old.side_words }
+    ensures words { IfOk result (λ words. words.items ≡ reference.old.side_words) }
     ensures kept { reference.new ≡ reference.old }
 {
     let mut words = Vec::new(alloc);
-    for k in 0..len {
-        words.push(reference.read(k))?;
+    for j in 0..len {
+        words.push(reference.side(j))?;
     }
     Ok(words)
 }
@@ -106,34 +117,39 @@ fn build_uncounted<T: Text, A: Attach, L: Ledger>(t: &mut T, draft: &mut Draft<'
     build(t, draft, &mut steps);
 }
 
-/// The list that `build` writes into a draft, out of the slot in which it is published.
-fn built<const DISTANCE: usize>(
+/// The list that `build` writes beside a stored text, installed as the side of its slot and read as that.
+fn sided<const DISTANCE: usize>(
     alloc: Global,
+    words: &[u64],
     t: &mut Sampled<DISTANCE>,
     pass: &mut Pass<'_, Crumbs<DISTANCE>>,
 ) -> Result<Option<Vec<u64>>, OutOfMemory>
-    requires { (1 ≤ DISTANCE) × (DISTANCE ≤ 4096) }
-    ensures list { IfOk result (λ list. IfSome list (λ words. words.items ≡ crumbs (unwrap_or (stored_text (t.old.0)) []) DISTANCE)) }
+    requires distance { (1 ≤ DISTANCE) × (DISTANCE ≤ 4096) }
+    requires words { words.now ≡ t.old.0 }
+    ensures list { IfOk result (λ list. IfSome list (λ side. side.items ≡ crumbs (unwrap_or (stored_text words.now) []) DISTANCE)) }
     ensures kept { t.new ≡ t.old }
-    ensures heap { pass.new.heap ≡ pass.old.heap }
 {
     let count = t.count();
-    let room = pass.capacity_words();
-    let Some(mut draft) = pass.draft() else {
-        return Ok(None);
-    };
-    if count / DISTANCE as u64 + 2 > room as u64 {
+    let room = pass.capacity_words() as u64;
+    if words.len() as u64 > room || count / DISTANCE as u64 + 2 > room {
         return Ok(None);
     }
-    build_uncounted::<Sampled<DISTANCE>, Crumbs<DISTANCE>, Brand>(t, &mut draft, Blank::new(1));
-    let mut reference = draft.publish();
-    let len = reference.read(0) / DISTANCE as u64 + 2;
-    let list = copied(alloc, &mut reference, len as u32)?;
-    reference.release(pass);
-    Ok(Some(list))
+    let Some(mut text) = pass.draft() else {
+        return Ok(None);
+    };
+    t.is_listed();
+    fill(&mut text, words);
+    let mut reference = text.publish();
+    let Some(mut list) = pass.draft() else {
+        return Ok(None);
+    };
+    build_uncounted::<Sampled<DISTANCE>, Crumbs<DISTANCE>, Brand>(t, &mut list, Blank::new(1));
+    reference.install(list, pass);
+    let len = reference.side(0) / DISTANCE as u64 + 2;
+    Ok(Some(side_of(alloc, &mut reference, len as u32)?))
 }
 
-/// The answers of one text at one stride: the list by the plain program, the list that `build` wrote, and whether it fits.
+/// The answers of one text at one stride: the list by the plain program and the list that `build` wrote, out of a side.
 fn check_list<const DISTANCE: usize>(
     rt: &impl Abort,
     alloc: Global,
@@ -143,21 +159,22 @@ fn check_list<const DISTANCE: usize>(
 {
     let plain = plain_list(alloc, text, DISTANCE as u64)?;
     let wanted = plain.clone()?;
-    let mut t = Sampled::<DISTANCE>::new(stored(alloc, text)?, plain, false).expect(
+    let words = stored(alloc, text)?;
+    let mut t = Sampled::<DISTANCE>::new(words.clone()?, plain, false).expect(
         rt,
         "the list of {text:?} at {DISTANCE} fits",
     );
     let layout = Layout {
         capacity_words: 300,
-        slots: 1,
-        credits: 2,
+        slots: 2,
+        credits: 4,
     };
     let Ok((heap, whole)) = Heap::<Crumbs<DISTANCE>>::open(alloc, &layout, &TextList::new(alloc))
     else {
         panic!(rt; "no heap")
     };
     let mut pass = heap.pass(whole);
-    let list = built(alloc, &mut t, &mut pass)?.expect(rt, "there is room");
+    let list = sided(alloc, words.as_slice(), &mut t, &mut pass)?.expect(rt, "there is room");
     assert_eq!(rt;
         list.as_slice(),
         wanted.as_slice(),

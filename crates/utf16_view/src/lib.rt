@@ -5,5 +5,8 @@
 #![tactic(auto)]
 
 #[cfg(test)]
+mod crumb_tests;
+mod from_crumbs;
+#[cfg(test)]
 mod tests;
 pub mod utf16;

@@ -1,15 +1,17 @@
 //! A text as code units of UTF-16 (The Unicode Standard, section 3.9, D91).
 ghost use Rattle.std.specs.Char.Escape.{encode_utf16};
+ghost use Rattle.text_spec.specs.Crumbs.{size16};
 ghost use Rattle.text_spec.specs.Offsets.{start, len_utf16};
 ghost use Rattle.text_spec.specs.Views.{width_in, part};
 ghost use Rattle.unit_views.specs.Spots.{IsSpot, spot_offset};
-ghost use Rattle.std.specs.Prelude.{◌-◌, slice_index, ◌≡◌, ◌*◌, ◌+◌, ◌<◌, ◌≤◌, true, false, Some, IfOk, IfErr, length};
+ghost use Rattle.std.specs.Prelude.{◌-◌, slice_index, ◌≡◌, ◌*◌, ◌+◌, ◌<◌, ◌≤◌, true, false, Some, IfOk, IfErr, length, ℕ, ◌/◌, ◌^◌};
 ghost use Rattle.std.specs.Int.RustNames.{unsigned_abs};
 ghost use Rattle.rounding.specs.Resolving.{reads_other};
 ghost use Rattle.unit_views.specs.declared.view.View.TheVariants.{Units};
 ghost use Rattle.text_spec.specs.declared.encoding.Encoding.TheVariants.{Utf8, Utf16};
 ghost use Rattle.unit_views.specs.Elements.{elements, element_count, element_offset, IsOutOfRange, element_index, IsElement, IsAfter, IsBefore, IsMoved, IsDistance, IsStopped, IsMoveOut, IsEitherOut};
 
+use crate::from_crumbs::{has_crumbs, index_from_crumb, is_offset, offset_from_crumb};
 use index_words::Index;
 use rounding::bounds;
 use std::sync::ledger::Ledger;
@@ -186,7 +188,8 @@ pub fn distance<T: Text, L: Ledger>(
 /// The index of the code unit with an offset, which may be the number of code units.
 ///
 /// Refused exactly where the offset is above that number, with the offset, 0 and that number. Where the text is marked ASCII no word
-/// is read. In UTF-8 storage at most two words a scalar are read in one pass up to the code unit; in UTF-16 storage at most the two beside it.
+/// is read. Where breadcrumbs are known, at most twice as many as their distance is; else in UTF-8 storage at most two a scalar in one
+/// pass up to the code unit, and in UTF-16 storage at most the two beside it.
 pub fn index_of_offset<T: Text, L: Ledger>(
     t: &mut T,
     offset: u64,
@@ -201,18 +204,24 @@ pub fn index_of_offset<T: Text, L: Ledger>(
       high = element_count (Units Utf16) (T.whole t.old) (T.first t.old) (T.end t.old);
     }) }
     ensures kept { t.new ≡ t.old }
-    ensures pass { T.storage t.old ≡ Utf8 → steps.new ≤ steps.old + 2 * (T.end t.old - T.first t.old) }
-    ensures near { T.storage t.old ≡ Utf8 → steps.new ≤ steps.old + 2 * offset }
+    ensures crumbs { T.knows_crumbs t.old ≡ true → 1 ≤ T.STRIDE → steps.new ≤ steps.old + 2 * T.STRIDE }
+    ensures pass { T.storage t.old ≡ Utf8 → T.knows_crumbs t.old ≡ false → steps.new ≤ steps.old + 2 * (T.end t.old - T.first t.old) }
+    ensures near { T.storage t.old ≡ Utf8 → T.knows_crumbs t.old ≡ false → steps.new ≤ steps.old + 2 * offset }
     ensures own { T.storage t.old ≡ Utf16 → steps.new ≤ steps.old + 2 }
     ensures unread { T.marked_ascii t.old ≡ true → steps.new ≡ steps.old }
 {
+    if has_crumbs(t) {
+        return index_from_crumb(t, offset, steps);
+    }
     calls::index_of_offset(t, View::Units(Encoding::Utf16), offset, steps)
 }
 
 /// The offset of the code unit that an index is rounded down to.
 ///
-/// Refused exactly where `resolve` refuses the index, with its numbers. Where the text is marked ASCII no word is read; else at most
-/// two a scalar in one pass up to the code unit, at most four beside it, and those that resolving an index of the other encoding reads.
+/// Refused exactly where `resolve` refuses the index, with its numbers. Where the text is marked ASCII no word is read. Where
+/// breadcrumbs are known and the index is read in bytes, at most two words, one for each binary digit of the number of breadcrumbs, and
+/// twice as many as their distance is; else at most two a scalar in one pass up to the code unit, at most four beside it, and those that
+/// resolving an index of the other encoding reads.
 pub fn offset_of_index<T: Text, L: Ledger>(
     t: &mut T,
     i: Index,
@@ -221,9 +230,16 @@ pub fn offset_of_index<T: Text, L: Ledger>(
     ensures offset { IfOk result (λ offset. element_offset (Units Utf16) (T.storage t.old) (T.whole t.old) (T.first t.old) (T.end t.old) i ≡ Some offset) }
     ensures refused { IfErr result (IsOutOfRange (Units Utf16) (T.storage t.old) (T.whole t.old) (T.first t.old) (T.end t.old) i) }
     ensures kept { t.new ≡ t.old }
-    ensures cost { steps.new ≤ steps.old + 2 * length (T.whole t.old) + 2 * (T.end t.old - T.first t.old) + 4 }
-    ensures near { reads_other (T.storage t.old) i ≡ false → steps.new ≤ steps.old + 2 * (T.end t.old - T.first t.old) + 4 }
+    ensures crumbs { T.knows_crumbs t.old ≡ true → 1 ≤ T.STRIDE → reads_other (T.storage t.old) i ≡ false → (digits : ℕ)
+        → size16 (T.whole t.old) / T.STRIDE < 2 ^ digits → steps.new ≤ steps.old + 2 * T.STRIDE + 2 + digits }
+    ensures cost { T.knows_crumbs t.old ≡ false → steps.new ≤ steps.old + 2 * length (T.whole t.old) + 2 * (T.end t.old - T.first t.old) + 4 }
+    ensures across { reads_other (T.storage t.old) i ≡ true → steps.new ≤ steps.old + 2 * length (T.whole t.old) + 2 * (T.end t.old - T.first t.old) + 4 }
+    ensures near { T.knows_crumbs t.old ≡ false → reads_other (T.storage t.old) i ≡ false → steps.new ≤ steps.old + 2 * (T.end t.old - T.first t.old) + 4 }
     ensures unread { T.marked_ascii t.old ≡ true → steps.new ≡ steps.old }
 {
+    let _known = t.crumbs_known();
+    if has_crumbs(t) && !is_offset(i) {
+        return offset_from_crumb(t, i, steps);
+    }
     calls::offset_of_index(t, View::Units(Encoding::Utf16), i, steps)
 }

@@ -1,5 +1,6 @@
 //! A stored text with the list of its breadcrumbs beside it, which counts the words that are read of it.
 ghost use Rattle.std.specs.Prelude.{◌≡◌, IfSome};
+ghost use Rattle.crumbs.specs.Fitting.{IsCrumbList};
 
 use crate::Crumbs;
 use crate::count_word::units_in;
@@ -43,6 +44,13 @@ impl<const DISTANCE: usize> Sampled<DISTANCE> {
             tells,
             reads: 0,
         })
+    }
+
+    /// The list is that of the words, and is the one list that fits them.
+    pub fn is_listed(&self)
+        ensures { IsCrumbList DISTANCE (self.now.0) (self.now.1) }
+    {
+        let _tells = self.tells;
     }
 
     /// How many words were read since the last call.

@@ -1,8 +1,7 @@
-use Rattle.std.proofs.Common.{◌≡◌, sym, ap, subst, ◌∙◌, ◌≤◌, ◌<◌, ◌^◌, get_or, true, false, arith}
+use Rattle.std.proofs.Common.{sym, ap, subst, ◌∙◌, ◌<◌, get_or, arith}
 use Rattle.std.specs.Char.Escape.{encode_utf16}
 use Rattle.text_spec.specs.Offsets.{len_utf16}
-use Rattle.text_spec.specs.declared.encoding.Encoding.TheVariants.{Utf8, Utf16}
-use Rattle.text_spec.specs.Views.{width_in}
+use Rattle.text_spec.specs.declared.encoding.Encoding.TheVariants.{Utf16}
 use Rattle.unit_views.specs.declared.view.View.TheVariants.{Units}
 use Rattle.unit_views.specs.Elements.{is_own}
 use Rattle.unit_views.proofs.Between.{order_of}

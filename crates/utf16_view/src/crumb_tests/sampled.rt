@@ -1,0 +1,121 @@
+//! A stored text with the list of its breadcrumbs beside it, which counts the words that are read of it.
+ghost use Rattle.std.specs.Prelude.{◌≡◌, IfSome};
+
+use crumbs::Crumbs;
+use slot_model::Attach;
+use std::marker::Model;
+use std::sync::ledger::Ledger;
+use text_spec::Encoding;
+use word_units::{Steps, Text};
+
+/// A stored text and the list of its breadcrumbs, which it tells or keeps to itself.
+#[derive(Drop)]
+pub struct Sampled<const DISTANCE: usize> {
+    stored: Vec<u64>,
+    list: Vec<u64>,
+    tells: bool,
+    reads: u64,
+}
+
+impl<const DISTANCE: usize> Model for Sampled<DISTANCE> {
+    ghost use Rattle.std.specs.Prelude.{ℕ, List, Bool};
+    ghost use Rattle.crumbs.specs.Fitting.{IsCrumbList};
+
+    ghost Value = { List ℕ × List ℕ × Bool };
+
+    ghost view = { λ t. (t.stored.items, t.list.items, t.tells) };
+
+    ghost invariant = { λ t. IsCrumbList DISTANCE t.stored.items t.list.items };
+}
+
+impl<const DISTANCE: usize> Sampled<DISTANCE> {
+    /// The text of the words of a slot, where `list` is the list of its breadcrumbs.
+    pub fn new(stored: Vec<u64>, list: Vec<u64>, tells: bool) -> Option<Sampled<DISTANCE>>
+        ensures { IfSome result (λ t. t ≡ (stored.items, list.items, tells)) }
+    {
+        if !Crumbs::<DISTANCE>::check_fit(stored.as_slice(), list.as_slice()) {
+            return None;
+        }
+        Some(Sampled {
+            stored,
+            list,
+            tells,
+            reads: 0,
+        })
+    }
+
+    /// How many words were read since the last call.
+    pub fn take_reads(&mut self) -> u64
+        ensures kept { self.new ≡ self.old }
+    {
+        let reads = self.reads;
+        self.reads = 0;
+        reads
+    }
+}
+
+impl<const DISTANCE: usize> Text for Sampled<DISTANCE> {
+    ghost use Rattle.std.specs.Prelude.{false, [], drop, length};
+    ghost use Rattle.text_spec.specs.declared.encoding.Encoding.TheVariants.{Utf8};
+    ghost use Rattle.std.specs.Option.{unwrap_or};
+    ghost use Rattle.crumbs.specs.Fitting.{stored_text};
+
+    ghost storage = { λ t. Utf8 };
+
+    ghost words = { λ t. drop 1 (t.0) };
+
+    ghost whole = { λ t. unwrap_or (stored_text (t.0)) [] };
+
+    ghost first = { λ t. 0 };
+
+    ghost end = { λ t. length (unwrap_or (stored_text (t.0)) []) };
+
+    ghost knows_crumbs = { λ t. t.2 };
+
+    ghost marked_ascii = { λ t. false };
+
+    ghost STRIDE = { DISTANCE };
+
+    fn stride(&self) -> usize {
+        DISTANCE
+    }
+
+    fn encoding(&self) -> Encoding {
+        Encoding::Utf8
+    }
+
+    fn count(&self) -> u64 {
+        self.stored[0] % (1 << 48)
+    }
+
+    fn low(&self) -> u64 {
+        0
+    }
+
+    fn high(&self) -> u64 {
+        self.stored[0] % (1 << 48)
+    }
+
+    fn word<L: Ledger>(&mut self, k: u64, steps: &mut Steps<L>) -> u64 {
+        steps.tick();
+        self.reads = self.reads.wrapping_add(1);
+        self.stored[k as usize + 1]
+    }
+
+    fn crumbs_known(&self) -> bool {
+        self.tells
+    }
+
+    fn crumb_word<L: Ledger>(&mut self, j: u64, steps: &mut Steps<L>) -> u64 {
+        steps.tick();
+        self.reads = self.reads.wrapping_add(1);
+        match self.list.get(j as usize) {
+            Some(word) => *word,
+            None => 0,
+        }
+    }
+
+    fn ascii(&self) -> bool {
+        false
+    }
+}
