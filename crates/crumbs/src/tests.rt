@@ -165,7 +165,7 @@ fn check_list<const DISTANCE: usize>(
         "the list of {text:?} at {DISTANCE} fits",
     );
     let layout = Layout {
-        capacity_words: 300,
+        capacity_words: 600,
         slots: 2,
         credits: 4,
     };
@@ -216,22 +216,67 @@ fn built_lists_are_those_of_a_plain_program(rt: HostRuntime) -> Result<(), OutOf
     Ok(())
 }
 
-#[test]
-fn a_pair_over_a_stride_has_a_crumb_on_its_second_half(rt: HostRuntime) -> Result<(), OutOfMemory> {
-    let alloc = rt.alloc();
+/// Each part so many times, one part after the other.
+fn text_of(alloc: Global, parts: &[(&str, u32)]) -> Result<String, OutOfMemory> {
     let mut text = String::new(alloc);
-    for _ in 0..63 {
-        text.push_str("é")?;
+    for (part, times) in parts {
+        for _ in 0..*times {
+            text.push_str(part)?;
+        }
     }
-    text.push_str("😀")?;
-    for _ in 0..63 {
-        text.push_str("é")?;
-    }
-    let list = check_list::<64>(&rt, alloc, text.as_str())?;
-    assert_eq!(rt; list.as_slice(), [128, 5, 8273924, 16777221].as_slice());
-    let empty = check_list::<64>(&rt, alloc, "")?;
-    assert_eq!(rt; empty.as_slice(), [0, 5].as_slice());
+    Ok(text)
+}
+
+/// A text's list is the one worked out by hand.
+fn has_list<const DISTANCE: usize>(
+    rt: &impl Abort,
+    alloc: Global,
+    parts: &[(&str, u32)],
+    wanted: &[u64],
+) -> Result<(), OutOfMemory>
+    requires { (1 ≤ DISTANCE) × (DISTANCE ≤ 4096) }
+{
+    let text = text_of(alloc, parts)?;
+    let list = check_list::<DISTANCE>(rt, alloc, text.as_str())?;
+    assert_eq!(rt; list.as_slice(), wanted, "{text:?} at {DISTANCE}");
     Ok(())
+}
+
+#[test]
+fn lists_are_those_worked_out_by_hand(rt: HostRuntime) -> Result<(), OutOfMemory> {
+    let alloc = rt.alloc();
+    has_list::<64>(&rt, alloc, &[], &[0, 5])?;
+    has_list::<64>(
+        &rt,
+        alloc,
+        &[("é", 63), ("😀", 1), ("é", 63)],
+        &[128, 5, 8273924, 16777221],
+    )?;
+    has_list::<64>(&rt, alloc, &[("é", 64)], &[64, 5, 8388613])?;
+    has_list::<64>(&rt, alloc, &[("é", 65)], &[65, 5, 8388613])?;
+
+    // A pair across each multiple of the distance.
+    has_list::<64>(
+        &rt,
+        alloc,
+        &[("a", 1), ("😀", 96)],
+        &[193, 5, 8208388, 16596996, 24985604],
+    )?;
+    has_list::<63>(
+        &rt,
+        alloc,
+        &[("😀", 32), ("a", 1), ("😀", 31)],
+        &[127, 5, 8142852, 16334852],
+    )?;
+    has_list::<1>(
+        &rt,
+        alloc,
+        &[("a", 1), ("😀", 1)],
+        &[3, 5, 65541, 81924, 327685],
+    )?;
+    has_list::<2>(&rt, alloc, &[("a", 1), ("😀", 2)], &[5, 5, 81924, 344068])?;
+    has_list::<4096>(&rt, alloc, &[("a", 4095), ("😀", 1)], &[4097, 5, 268386308])?;
+    has_list::<4096>(&rt, alloc, &[("a", 4095)], &[4095, 5])
 }
 
 /// `index_of_offset`, where nobody asks for the steps.
@@ -422,5 +467,69 @@ fn every_offset_and_index_is_answered_from_a_crumb(rt: HostRuntime) -> Result<()
         check_questions::<64>(&rt, alloc, text.as_str())?;
         check_questions::<3>(&rt, alloc, text.as_str())?;
     }
+    Ok(())
+}
+
+/// An offset, its index word, which one past the end has not, and how many words are read for it.
+type Offset = (u64, Option<u64>, u64);
+
+/// A place in bytes, how many units of its scalar it passes, its offset, and how many words are read for it.
+type Place = (u64, u32, u64, u64);
+
+/// The questions of two tables are answered so, each by so many words.
+fn check_reads(rt: &impl Abort, t: &mut Sampled<64>, offsets: &[Offset], places: &[Place])
+    requires known { t.old.2 ≡ true }
+    ensures { t.new ≡ t.old }
+{
+    'offsets: for (offset, word, reads) in offsets {
+        let found = word_of_offset(t, *offset);
+        assert_eq!(rt; (found, t.take_reads()), (*word, *reads), "unit {offset}");
+    }
+    'places: for (position, past, offset, reads) in places {
+        let found = offset_of_place(t, *position, *past);
+        assert_eq!(rt;
+            (found, t.take_reads()),
+            (Some(*offset), *reads),
+            "byte {position} and {past}"
+        );
+    }
+}
+
+/// Two words for an offset, three or four for an index, and one for each scalar of the walk but two for the pair, which stands in two
+/// words.
+#[test]
+fn questions_read_so_many_words(rt: HostRuntime) -> Result<(), OutOfMemory> {
+    let alloc = rt.alloc();
+    let text = text_of(alloc, &[("é", 63), ("😀", 1), ("é", 63)])?;
+    let list = check_list::<64>(&rt, alloc, text.as_str())?;
+    let mut t = Sampled::<64>::new(stored(alloc, text.as_str())?, list, true).expect(
+        &rt,
+        "the list fits",
+    );
+    check_reads(
+        &rt,
+        &mut t,
+        &[
+            (0, Some(5), 2),
+            (1, Some(131077), 3),
+            (63, Some(8257541), 65),
+            (64, Some(8273924), 2),
+            (65, Some(8519685), 2),
+            (127, Some(16646149), 64),
+            (128, Some(16777221), 2),
+            (129, None, 1),
+        ],
+        &[
+            (0, 0, 0, 4),
+            (1, 0, 0, 4),
+            (126, 0, 63, 68),
+            (126, 1, 64, 6),
+            (126, 2, 63, 6),
+            (129, 0, 63, 6),
+            (130, 0, 65, 7),
+            (254, 0, 127, 69),
+            (256, 0, 128, 4),
+        ],
+    );
     Ok(())
 }
