@@ -1,7 +1,6 @@
 //! The walk in pieces beside the plain program, which asks `unicode_segmentation` for a whole text, over storage of either encoding;
 //! and rows worked out by hand.
-ghost use Rattle.std.specs.Prelude.{◌≡◌, ◌+◌, ◌*◌, ◌<◌, ◌≤◌, IfOk, length};
-ghost use Rattle.text_spec.specs.Packed.{byte_of, bytes_of};
+ghost use Rattle.std.specs.Prelude.{◌≡◌};
 
 use crate::characters;
 use index_words::Index;
@@ -12,78 +11,6 @@ use std::sync::ledger::{Blank, Ledger};
 use text_spec::{Encoding, OutOfMemory};
 use unicode_segmentation::UnicodeSegmentation;
 use word_units::{OutOfBounds, Steps, VecText};
-
-/// Byte `p` of words.
-fn held_byte(words: &[u64], p: u64) -> u8
-    requires { p < 8 * length words.now }
-    ensures { result ≡ byte_of words.now p }
-{
-    let word = words[(p / 8) as usize];
-    ((word >> (8 * (p % 8))) % 256) as u8
-}
-
-/// The first `count` bytes of words.
-fn held_bytes(alloc: Global, words: &[u64], count: u64) -> Result<Vec<u8>, OutOfMemory>
-    requires { count ≤ 8 * length words.now }
-    ensures { IfOk result (λ bytes. bytes.items ≡ bytes_of words.now count) }
-{
-    let mut bytes = Vec::new(alloc);
-    for p in 0..count {
-        bytes.push(held_byte(words, p))?;
-    }
-    Ok(bytes)
-}
-
-/// The text of packed bytes, where they are UTF-8.
-fn text8(alloc: Global, words: Vec<u64>, count: u64) -> Result<Option<VecText>, OutOfMemory> {
-    if count >= 1_000_000 || count > 8 * words.len() as u64 {
-        return Ok(None);
-    }
-    let bytes = held_bytes(alloc, words.as_slice(), count)?;
-    match std::str::from_utf8(bytes.as_slice()) {
-        Ok(_) => Ok(Some(VecText::new(words, Encoding::Utf8, count))),
-        Err(_) => Ok(None),
-    }
-}
-
-/// The text of packed 16-bit units.
-fn text16(words: Vec<u64>, count: u64) -> Option<VecText> {
-    if count >= 1_000_000 || count > 4 * words.len() as u64 {
-        return None;
-    }
-    Some(VecText::new(words, Encoding::Utf16, count))
-}
-
-/// Words of eight bytes.
-fn pack8(alloc: Global, text: &str) -> Result<Vec<u64>, OutOfMemory> {
-    let mut words = Vec::new(alloc);
-    for group in text.as_bytes().chunks(8) {
-        let mut word: u64 = 0;
-        for byte in group.iter().rev() {
-            word = (word << 8) | u64::from(*byte);
-        }
-        words.push(word)?;
-    }
-    Ok(words)
-}
-
-/// Words of four units, and how many units there are.
-fn pack16(alloc: Global, text: &str) -> Result<(Vec<u64>, u64), OutOfMemory> {
-    let mut units = Vec::new(alloc);
-    for unit in text.encode_utf16() {
-        units.push(unit)?;
-    }
-    let mut words = Vec::new(alloc);
-    for group in units.as_slice().chunks(4) {
-        let mut word: u64 = 0;
-        for unit in group.iter().rev() {
-            word = (word << 16) | u64::from(*unit);
-        }
-        words.push(word)?;
-    }
-    let count = units.len() as u64;
-    Ok((words, count))
-}
 
 /// Where the Characters of a text begin and the last one ends, in bytes and in units: the plain program.
 fn plain_bounds(alloc: Global, text: &str) -> Result<(Vec<u64>, Vec<u64>), OutOfMemory> {
@@ -232,15 +159,14 @@ fn first_wrong(t: &mut VecText, bounds: &[u64], encoding: Encoding) -> Option<u6
 /// A text in both encodings.
 fn check(rt: &impl Abort, alloc: Global, text: &str) -> Result<(), OutOfMemory> {
     let (bytes, units) = plain_bounds(alloc, text)?;
-    let words = pack8(alloc, text)?;
-    let mut utf8 = text8(alloc, words, text.len() as u64)?.expect(rt, "{text:?} is UTF-8");
+    let mut utf8 = VecText::from_utf8(alloc, text)?.expect(rt, "{text:?} is short");
     assert_eq!(rt;
         first_wrong(&mut utf8, bytes.as_slice(), Encoding::Utf8),
         None,
         "{text:?} in UTF-8"
     );
-    let (words, count) = pack16(alloc, text)?;
-    let mut utf16 = text16(words, count).expect(rt, "there are so many units");
+    let spelt = text.encode_utf16().collect::<Vec<u16>>(alloc)?;
+    let mut utf16 = VecText::from_utf16(alloc, spelt.as_slice())?.expect(rt, "{text:?} is short");
     assert_eq!(rt;
         first_wrong(&mut utf16, units.as_slice(), Encoding::Utf16),
         None,
@@ -371,11 +297,13 @@ fn rows_worked_out_by_hand(rt: HostRuntime) -> Result<(), OutOfMemory> {
         ("", 0, (0, 7, 1, 1), (0, 11, 1, 1)),
     ] {
         let text = repeated(alloc, front, "\u{301}", count, "")?;
-        let words = pack8(alloc, text.as_str())?;
-        let mut utf8 = text8(alloc, words, text.len() as u64)?.expect(&rt, "it is UTF-8");
+        let mut utf8 = VecText::from_utf8(alloc, text.as_str())?.expect(&rt, "{text} is short");
         assert_eq!(&rt; row(&mut utf8), in8, "{text}");
-        let (words, units) = pack16(alloc, text.as_str())?;
-        let mut utf16 = text16(words, units).expect(&rt, "there are so many units");
+        let units = text.encode_utf16().collect::<Vec<u16>>(alloc)?;
+        let mut utf16 = VecText::from_utf16(alloc, units.as_slice())?.expect(
+            &rt,
+            "{text} is short",
+        );
         assert_eq!(&rt; row(&mut utf16), in16, "{text}");
     }
     Ok(())

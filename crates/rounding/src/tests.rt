@@ -1,6 +1,5 @@
 //! What no clause says: what the calls answer at texts written out by hand, over storage of either encoding.
-ghost use Rattle.std.specs.Prelude.{◌≡◌, ◌+◌, ◌*◌, ◌<◌, ◌≤◌, IfOk, length};
-ghost use Rattle.text_spec.specs.Packed.{byte_of, bytes_of};
+ghost use Rattle.std.specs.Prelude.{◌≡◌};
 
 use crate::{resolve, scalar_floor, utf8_floor, utf16_floor};
 use index_words::Index;
@@ -10,47 +9,6 @@ use std::process::Abort;
 use std::sync::ledger::{Blank, Ledger};
 use text_spec::{Encoding, OutOfMemory};
 use word_units::{OutOfBounds, Steps, VecText};
-
-/// Byte `p` of words.
-fn held_byte(words: &[u64], p: u64) -> u8
-    requires { p < 8 * length words.now }
-    ensures { result ≡ byte_of words.now p }
-{
-    let word = words[(p / 8) as usize];
-    ((word >> (8 * (p % 8))) % 256) as u8
-}
-
-/// The first `count` bytes of words.
-fn held_bytes(alloc: Global, words: &[u64], count: u64) -> Result<Vec<u8>, OutOfMemory>
-    requires { count ≤ 8 * length words.now }
-    ensures { IfOk result (λ bytes. bytes.items ≡ bytes_of words.now count) }
-{
-    let mut bytes = Vec::new(alloc);
-    for p in 0..count {
-        bytes.push(held_byte(words, p))?;
-    }
-    Ok(bytes)
-}
-
-/// The text of packed bytes, where they are UTF-8.
-fn text8(alloc: Global, words: Vec<u64>, count: u64) -> Result<Option<VecText>, OutOfMemory> {
-    if count >= 1_000_000 || count > 8 * words.len() as u64 {
-        return Ok(None);
-    }
-    let bytes = held_bytes(alloc, words.as_slice(), count)?;
-    match std::str::from_utf8(bytes.as_slice()) {
-        Ok(_) => Ok(Some(VecText::new(words, Encoding::Utf8, count))),
-        Err(_) => Ok(None),
-    }
-}
-
-/// The text of packed 16-bit units.
-fn text16(words: Vec<u64>, count: u64) -> Option<VecText> {
-    if count >= 1_000_000 || count > 4 * words.len() as u64 {
-        return None;
-    }
-    Some(VecText::new(words, Encoding::Utf16, count))
-}
 
 /// The words of an index once it is resolved, and of its floors: scalars, UTF-16, UTF-8.
 type Answer = Result<(u64, u64, u64, u64), OutOfBounds>;
@@ -96,11 +54,9 @@ fn utf8_rows_are(
     rt: &impl Abort,
     alloc: Global,
     text: &str,
-    word: u64,
     rows: &[Row],
 ) -> Result<(), OutOfMemory> {
-    let words = Vec::from_slice(alloc, &[word])?;
-    let mut t = text8(alloc, words, text.len() as u64)?.expect(rt, "{text:?} is UTF-8");
+    let mut t = VecText::from_utf8(alloc, text)?.expect(rt, "{text:?} is short");
     rows_are(rt, &mut t, rows, text);
     Ok(())
 }
@@ -112,7 +68,6 @@ fn indices_are_rounded_in_utf8_storage(rt: HostRuntime) -> Result<(), OutOfMemor
         &rt,
         alloc,
         "abc",
-        0x63_6261,
         &[
             (4, Ok((4, 5, 5, 5))),
             (196612, Ok((196612, 196613, 196613, 196613))),
@@ -124,7 +79,6 @@ fn indices_are_rounded_in_utf8_storage(rt: HostRuntime) -> Result<(), OutOfMemor
         &rt,
         alloc,
         "é",
-        0xA9C3,
         &[
             (65544, Ok((131077, 131077, 131077, 131077))),
             (65540, Ok((65540, 5, 5, 65540))),
@@ -136,7 +90,6 @@ fn indices_are_rounded_in_utf8_storage(rt: HostRuntime) -> Result<(), OutOfMemor
         &rt,
         alloc,
         "é😀",
-        0x8098_9FF0_A9C3,
         &[
             (131072, Ok((131076, 131077, 131077, 131077))),
             (131084, Ok((131076, 131077, 131077, 131077))),
@@ -152,7 +105,6 @@ fn indices_are_rounded_in_utf8_storage(rt: HostRuntime) -> Result<(), OutOfMemor
         &rt,
         alloc,
         "",
-        0,
         &[
             (4, Ok((4, 5, 5, 5))),
             (8, Ok((5, 5, 5, 5))),
@@ -163,8 +115,7 @@ fn indices_are_rounded_in_utf8_storage(rt: HostRuntime) -> Result<(), OutOfMemor
 
 #[test]
 fn indices_are_rounded_in_utf16_storage(rt: HostRuntime) -> Result<(), OutOfMemory> {
-    let words = Vec::from_slice(rt.alloc(), &[0xDE00_D83D])?;
-    let mut pair = text16(words, 2).expect(&rt, "two units");
+    let mut pair = VecText::from_utf16(rt.alloc(), &[0xD83D, 0xDE00])?.expect(&rt, "two units");
     rows_are(
         &rt,
         &mut pair,
@@ -178,8 +129,10 @@ fn indices_are_rounded_in_utf16_storage(rt: HostRuntime) -> Result<(), OutOfMemo
         ],
         "a pair",
     );
-    let words = Vec::from_slice(rt.alloc(), &[0xDC00_0041_D800])?;
-    let mut lone = text16(words, 3).expect(&rt, "three units");
+    let mut lone = VecText::from_utf16(rt.alloc(), &[0xD800, 0x41, 0xDC00])?.expect(
+        &rt,
+        "three units",
+    );
     rows_are(
         &rt,
         &mut lone,

@@ -1,5 +1,5 @@
 -- What a value keeps, and what contracts see of it.
-use Rattle.std.proofs.Common.{◌≡◌, refl, sym, ap, subst, ◌∙◌, ℕ, ◌+◌, ◌*◌, ◌/◌, ◌%◌, ◌^◌, ◌<◌, ◌≤◌, ◌++◌, List, [], ◌∷◌, Vec, Global, Bool, true, false, length, map, take, slice_index, w64, chars, IsUtf8, Some, arith}
+use Rattle.std.proofs.Common.{◌≡◌, refl, sym, ap, subst, ◌∙◌, ℕ, ◌*◌, ◌%◌, ◌^◌, ◌<◌, ◌≤◌, ◌++◌, List, [], ◌∷◌, Vec, Global, Bool, true, false, length, map, take, slice_index, w64, IsUtf8, Some, arith}
 use Rattle.std.specs.Int.{to_le_bytes}
 use Rattle.std.specs.List.{range_with_len}
 use Rattle.std.specs.Str.{all_scalars}
@@ -17,8 +17,9 @@ use Rattle.object_words.proofs.Forms.{small_text}
 use Rattle.str_value.specs.Meaning.{Meaning, storage_of}
 use Rattle.str_value.specs.declared.storage.Storage.{Storage}
 use Rattle.str_value.specs.declared.storage.Storage.TheVariants.{Words, Bytes, Units}
-use Rattle.str_value.specs.Stored.{held, byte_word, unit_word, small_count, text_of, row_of, words_of, IsStored}
-use Rattle.str_value.proofs.Packed.{utf8-denoted, bytes-denoted, units-denoted}
+use Rattle.word_units.specs.Packing.{byte_word, unit_word}
+use Rattle.str_value.specs.Stored.{held, small_count, text_of, row_of, words_of, IsStored}
+use Rattle.word_units.proofs.Packed.{utf8-denoted, bytes-denoted, units-denoted}
 use Rattle.str_value.proofs.Ascii.{chars-ascii, units-ascii}
 
 abbrev pub meaning_of : ℕ × ℕ → Storage → Meaning

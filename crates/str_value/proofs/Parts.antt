@@ -1,5 +1,5 @@
 -- The part of a text between two scalar boundaries of its storage.
-use Rattle.std.proofs.Common.{◌≡◌, refl, sym, ap, subst, ◌∙◌, ℕ, zero, suc, ◌+◌, ◌-◌, ◌^◌, ◌<◌, ◌≤◌, ⊎_elim, List, [], ◌∷◌, ◌++◌, length, take, drop, map, get_or, slice_index, slice_range, length-append, Bool, true, false, ◌&&◌, IsUtf8, Vec, Global, Result, Ok, Err, IfOk, arith}
+use Rattle.std.proofs.Common.{◌≡◌, refl, sym, ap, subst, ◌∙◌, ℕ, zero, suc, ◌+◌, ◌-◌, ◌^◌, ◌<◌, ◌≤◌, ⊎_elim, List, [], ◌∷◌, ◌++◌, length, take, drop, map, get_or, slice_range, length-append, Bool, true, false, ◌&&◌, IsUtf8, Vec, Global, Result, Ok, Err, IfOk, arith}
 use Rattle.std.proofs.Math.Seq.{take-add, take-append_seam, drop-append_seam}
 use Rattle.std.proofs.lemmas.List.{take-append-drop, length-take-le, get_or-drop, length-drop}
 use Rattle.std.proofs.lemmas.Str.{encodes-append, utf16_chars-nil, utf16_chars_lone, utf16_chars_pair}

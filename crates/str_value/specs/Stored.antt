@@ -1,10 +1,8 @@
 -- What a value keeps, as the text, the row and the content words that it means.
-use Rattle.std.specs.Prelude.{ℕ, ◌+◌, ◌*◌, ◌/◌, ◌%◌, ◌^◌, ◌<◌, ◌≤◌, List, [], ◌∷◌, length, map, drop, slice_index, chars, IsUtf8, true, false}
-use Rattle.std.specs.Int.{w64, from_le_bytes}
-use Rattle.std.specs.List.{range_with_len}
-use Rattle.text_spec.specs.declared.encoding.Encoding.TheVariants.{Utf8, Utf16}
-use Rattle.text_spec.specs.Packed.{bytes_of, content_words}
+use Rattle.std.specs.Prelude.{ℕ, ◌/◌, ◌%◌, ◌^◌, ◌<◌, ◌≤◌, List, [], ◌∷◌, length, slice_index, chars, IsUtf8, true, false}
+use Rattle.text_spec.specs.Packed.{bytes_of}
 use Rattle.text_spec.specs.Text.{utf8, repair}
+use Rattle.word_units.specs.Packing.{byte_words, unit_words}
 use Rattle.object_words.specs.Rows.{Row, small, owned, is_ascii, Describes}
 use Rattle.object_words.specs.declared.layout.TheConstants.{TOP_SHIFT, SMALL_COUNTS}
 use Rattle.str_value.specs.declared.storage.Storage.{Storage}
@@ -31,17 +29,11 @@ row_of object Words = small (held object Words)
 row_of object (Bytes v) = owned false (is_ascii v.items) (is_ascii v.items) (length v.items)
 row_of object (Units v) = owned true (is_ascii v.items) (is_ascii v.items) (length v.items)
 
--- word k of bytes and of units that are packed, least first; what lies behind the last is zero
-abbrev pub byte_word : List ℕ → ℕ → ℕ
-byte_word bytes k = from_le_bytes w64 (drop (8 * k) bytes)
-
-abbrev pub unit_word : List ℕ → ℕ → ℕ
-unit_word units k = slice_index units (4 * k) + slice_index units (4 * k + 1) * 2 ^ 16 + slice_index units (4 * k + 2) * 2 ^ 32 + slice_index units (4 * k + 3) * 2 ^ 48
-
+-- the content words that are read of it
 abbrev pub words_of : ℕ × ℕ → Storage → List ℕ
 words_of object Words = object.0 ∷ object.1 ∷ []
-words_of object (Bytes v) = map (byte_word v.items) (range_with_len 0 (content_words Utf8 (length v.items)))
-words_of object (Units v) = map (unit_word v.items) (range_with_len 0 (content_words Utf16 (length v.items)))
+words_of object (Bytes v) = byte_words v.items
+words_of object (Units v) = unit_words v.items
 
 -- what is kept is a text's: UTF-8, or any 16-bit units
 abbrev pub IsKept : ℕ × ℕ → Storage → Type 0

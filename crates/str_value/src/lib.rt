@@ -11,7 +11,6 @@
 
 mod error;
 mod lengths;
-mod packing;
 mod pass;
 mod small;
 mod storage;

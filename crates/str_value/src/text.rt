@@ -4,13 +4,12 @@ ghost use Rattle.text_spec.specs.Packed.{content_words};
 ghost use Rattle.text_spec.specs.Views.{size_in};
 ghost use Rattle.str_value.specs.Meaning.{storage_of};
 
-use crate::packing::{byte_word, unit_word};
 use crate::small::object_word;
 use crate::storage::Storage;
 use crate::value::Str;
 use std::sync::ledger::Ledger;
 use text_spec::Encoding;
-use word_units::{Steps, Text};
+use word_units::{Steps, Text, byte_word, unit_word};
 
 /// All of the storage is the text. Its breadcrumbs are never known: no shared storage is built yet.
 impl<'h> Text for Str<'h> {

@@ -8,9 +8,9 @@ ghost use Rattle.text_spec.specs.Text.{utf8, repair};
 ghost use Rattle.object_words.specs.Rows as rows;
 
 use crate::lengths::Lengths;
-use crate::packing::unit_or_zero;
 use std::alloc::Global;
 use text_spec::OutOfMemory;
+use word_units::unit_or_zero;
 
 // How many bytes U+FFFD takes in UTF-8, which is also what every unit from 0x800 on takes that is in no pair.
 const LONG_UNIT_BYTES: u64 = 3;

@@ -1,6 +1,5 @@
 //! What no clause says: what the calls answer at texts written out by hand, over storage of either encoding.
-ghost use Rattle.std.specs.Prelude.{◌≡◌, ◌+◌, ◌*◌, ◌<◌, ◌≤◌, IfOk, length};
-ghost use Rattle.text_spec.specs.Packed.{byte_of, bytes_of};
+ghost use Rattle.std.specs.Prelude.{◌≡◌};
 
 use crate::{View, scalars, utf8};
 use index_words::Index;
@@ -10,47 +9,6 @@ use std::process::Abort;
 use std::sync::ledger::{Blank, Ledger};
 use text_spec::{Encoding, OutOfMemory};
 use word_units::{OutOfBounds, Steps, VecText};
-
-/// Byte `p` of words.
-fn held_byte(words: &[u64], p: u64) -> u8
-    requires { p < 8 * length words.now }
-    ensures { result ≡ byte_of words.now p }
-{
-    let word = words[(p / 8) as usize];
-    ((word >> (8 * (p % 8))) % 256) as u8
-}
-
-/// The first `count` bytes of words.
-fn held_bytes(alloc: Global, words: &[u64], count: u64) -> Result<Vec<u8>, OutOfMemory>
-    requires { count ≤ 8 * length words.now }
-    ensures { IfOk result (λ bytes. bytes.items ≡ bytes_of words.now count) }
-{
-    let mut bytes = Vec::new(alloc);
-    for p in 0..count {
-        bytes.push(held_byte(words, p))?;
-    }
-    Ok(bytes)
-}
-
-/// The text of packed bytes, where they are UTF-8.
-fn text8(alloc: Global, words: Vec<u64>, count: u64) -> Result<Option<VecText>, OutOfMemory> {
-    if count >= 1_000_000 || count > 8 * words.len() as u64 {
-        return Ok(None);
-    }
-    let bytes = held_bytes(alloc, words.as_slice(), count)?;
-    match std::str::from_utf8(bytes.as_slice()) {
-        Ok(_) => Ok(Some(VecText::new(words, Encoding::Utf8, count))),
-        Err(_) => Ok(None),
-    }
-}
-
-/// The text of packed 16-bit units.
-fn text16(words: Vec<u64>, count: u64) -> Option<VecText> {
-    if count >= 1_000_000 || count > 4 * words.len() as u64 {
-        return None;
-    }
-    Some(VecText::new(words, Encoding::Utf16, count))
-}
 
 fn start_of(t: &VecText, view: View) -> Index {
     match view {
@@ -257,9 +215,8 @@ const UTF8: View = View::Units(Encoding::Utf8);
 #[test]
 fn every_call_in_utf8_storage(rt: HostRuntime) -> Result<(), OutOfMemory> {
     let alloc = rt.alloc();
-    // "aé€😀": the last scalar lies in two words
-    let words = Vec::from_slice(alloc, &[0x9FF0_AC82_E2A9_C361, 0x8098])?;
-    let mut t = text8(alloc, words, 10)?.expect(&rt, "UTF-8");
+    // the last scalar lies in two words
+    let mut t = VecText::from_utf8(alloc, "aé€😀")?.expect(&rt, "ten bytes");
     rows_hold(
         &rt,
         &mut t,
@@ -288,8 +245,7 @@ fn every_call_in_utf8_storage(rt: HostRuntime) -> Result<(), OutOfMemory> {
             (0x80, 655365),
         ],
     );
-    let words = Vec::from_slice(alloc, &[0])?;
-    let mut none = text8(alloc, words, 0)?.expect(&rt, "UTF-8");
+    let mut none = VecText::from_utf8(alloc, "")?.expect(&rt, "no byte");
     rows_hold(&rt, &mut none, View::Scalars, &[]);
     rows_hold(&rt, &mut none, UTF8, &[]);
     Ok(())
@@ -299,8 +255,10 @@ fn every_call_in_utf8_storage(rt: HostRuntime) -> Result<(), OutOfMemory> {
 fn every_call_in_utf16_storage(rt: HostRuntime) -> Result<(), OutOfMemory> {
     let alloc = rt.alloc();
     // a lone second half, 'A', a pair in two words, a lone first half
-    let words = Vec::from_slice(alloc, &[0xDE00_D83D_0041_DC00, 0xD800])?;
-    let mut t = text16(words, 5).expect(&rt, "units");
+    let mut t = VecText::from_utf16(alloc, &[0xDC00, 0x41, 0xD83D, 0xDE00, 0xD800])?.expect(
+        &rt,
+        "five units",
+    );
     rows_hold(
         &rt,
         &mut t,
@@ -330,8 +288,7 @@ fn every_call_in_utf16_storage(rt: HostRuntime) -> Result<(), OutOfMemory> {
             (0xBD, 327689),
         ],
     );
-    let words = Vec::from_slice(alloc, &[0])?;
-    let mut none = text16(words, 0).expect(&rt, "units");
+    let mut none = VecText::from_utf16(alloc, &[])?.expect(&rt, "no unit");
     rows_hold(&rt, &mut none, View::Scalars, &[]);
     rows_hold(&rt, &mut none, UTF8, &[]);
     Ok(())
@@ -387,22 +344,10 @@ fn crosses(rt: &impl Abort, t: &mut VecText, k: u32) {
 #[test]
 fn a_scalar_may_cross_words_at_each_byte(rt: HostRuntime) -> Result<(), OutOfMemory> {
     let alloc = rt.alloc();
-    let rows = [
-        (0x62_8098_9FF0, 0),
-        (0x6280_989F_F061, 0),
-        (0x62_8098_9FF0_6161, 0),
-        (0x6280_989F_F061_6161, 0),
-        (0x8098_9FF0_6161_6161, 0x62),
-        (0x989F_F061_6161_6161, 0x6280),
-        (0x9FF0_6161_6161_6161, 0x62_8098),
-        (0xF061_6161_6161_6161, 0x6280_989F),
-    ];
-    let mut k: u32 = 0;
-    'rows: for (near, far) in rows {
-        let words = Vec::from_slice(alloc, &[near, far])?;
-        let mut t = text8(alloc, words, u64::from(k).saturating_add(5))?.expect(&rt, "UTF-8");
-        crosses(&rt, &mut t, k);
-        k = k.saturating_add(1);
+    for k in 0..8 {
+        let text = &"aaaaaaa😀b"[7 - k..];
+        let mut t = VecText::from_utf8(alloc, text)?.expect(&rt, "twelve bytes");
+        crosses(&rt, &mut t, k as u32);
     }
     Ok(())
 }
@@ -440,12 +385,7 @@ fn walks_hold(rt: &impl Abort, t: &mut VecText, walks: &[Walk]) {
 #[test]
 fn words_of_ascii_are_passed_at_once(rt: HostRuntime) -> Result<(), OutOfMemory> {
     let alloc = rt.alloc();
-    let letters = 0x6161_6161_6161_6161;
-    let words = Vec::from_slice(
-        alloc,
-        &[letters, letters, 0x6161_6161_61A9_C361, 0x6161_6161],
-    )?;
-    let mut t = text8(alloc, words, 28)?.expect(&rt, "UTF-8");
+    let mut t = VecText::from_utf8(alloc, "aaaaaaaaaaaaaaaaaéaaaaaaaaa")?.expect(&rt, "28 bytes");
     walks_hold(
         &rt,
         &mut t,
@@ -529,9 +469,7 @@ fn past(position: u64, high: u64) -> OutOfBounds {
 #[test]
 fn indices_out_of_range_are_refused(rt: HostRuntime) -> Result<(), OutOfMemory> {
     let alloc = rt.alloc();
-    // "é😀"
-    let words = Vec::from_slice(alloc, &[0x8098_9FF0_A9C3])?;
-    let mut t = text8(alloc, words, 6)?.expect(&rt, "UTF-8");
+    let mut t = VecText::from_utf8(alloc, "é😀")?.expect(&rt, "six bytes");
     let rows = [
         (458752, past(7, 6)),
         (458756, past(7, 6)),
@@ -540,8 +478,7 @@ fn indices_out_of_range_are_refused(rt: HostRuntime) -> Result<(), OutOfMemory> 
     ];
     refused(&rt, &mut t, View::Scalars, &rows);
     refused(&rt, &mut t, UTF8, &rows);
-    let words = Vec::from_slice(alloc, &[0xDE00_D83D])?;
-    let mut pair = text16(words, 2).expect(&rt, "units");
+    let mut pair = VecText::from_utf16(alloc, &[0xD83D, 0xDE00])?.expect(&rt, "two units");
     let rows = [
         (196608, past(3, 2)),
         (196616, past(3, 2)),

@@ -1,6 +1,5 @@
 //! What no clause says: what the calls answer at texts written out by hand, over storage of either encoding.
-ghost use Rattle.std.specs.Prelude.{◌≡◌, ◌+◌, ◌*◌, ◌<◌, ◌≤◌, IfOk, length};
-ghost use Rattle.text_spec.specs.Packed.{byte_of, bytes_of};
+ghost use Rattle.std.specs.Prelude.{◌≡◌};
 
 use crate::utf16;
 use index_words::Index;
@@ -11,47 +10,6 @@ use std::sync::ledger::{Blank, Ledger};
 use text_spec::{Encoding, OutOfMemory};
 use unit_views::{scalars, utf8};
 use word_units::{OutOfBounds, Steps, VecText};
-
-/// Byte `p` of words.
-fn held_byte(words: &[u64], p: u64) -> u8
-    requires { p < 8 * length words.now }
-    ensures { result ≡ byte_of words.now p }
-{
-    let word = words[(p / 8) as usize];
-    ((word >> (8 * (p % 8))) % 256) as u8
-}
-
-/// The first `count` bytes of words.
-fn held_bytes(alloc: Global, words: &[u64], count: u64) -> Result<Vec<u8>, OutOfMemory>
-    requires { count ≤ 8 * length words.now }
-    ensures { IfOk result (λ bytes. bytes.items ≡ bytes_of words.now count) }
-{
-    let mut bytes = Vec::new(alloc);
-    for p in 0..count {
-        bytes.push(held_byte(words, p))?;
-    }
-    Ok(bytes)
-}
-
-/// The text of packed bytes, where they are UTF-8.
-fn text8(alloc: Global, words: Vec<u64>, count: u64) -> Result<Option<VecText>, OutOfMemory> {
-    if count >= 1_000_000 || count > 8 * words.len() as u64 {
-        return Ok(None);
-    }
-    let bytes = held_bytes(alloc, words.as_slice(), count)?;
-    match std::str::from_utf8(bytes.as_slice()) {
-        Ok(_) => Ok(Some(VecText::new(words, Encoding::Utf8, count))),
-        Err(_) => Ok(None),
-    }
-}
-
-/// The text of packed 16-bit units.
-fn text16(words: Vec<u64>, count: u64) -> Option<VecText> {
-    if count >= 1_000_000 || count > 4 * words.len() as u64 {
-        return None;
-    }
-    Some(VecText::new(words, Encoding::Utf16, count))
-}
 
 /// A code unit, and the word of the index behind it.
 type Row = (u16, u64);
@@ -194,9 +152,7 @@ fn rows_hold(rt: &impl Abort, t: &mut VecText, rows: &[Row]) {
 #[test]
 fn every_offset_has_its_index_and_back(rt: HostRuntime) -> Result<(), OutOfMemory> {
     let alloc = rt.alloc();
-    // "aé€😀"
-    let words = Vec::from_slice(alloc, &[0x9FF0_AC82_E2A9_C361, 0x8098])?;
-    let mut bytes = text8(alloc, words, 10)?.expect(&rt, "UTF-8");
+    let mut bytes = VecText::from_utf8(alloc, "aé€😀")?.expect(&rt, "ten bytes");
     rows_hold(
         &rt,
         &mut bytes,
@@ -208,8 +164,10 @@ fn every_offset_has_its_index_and_back(rt: HostRuntime) -> Result<(), OutOfMemor
             (0xDE00, 655365),
         ],
     );
-    let words = Vec::from_slice(alloc, &[0xD83D_20AC_00E9_0061, 0xDE00])?;
-    let mut units = text16(words, 5).expect(&rt, "units");
+    let mut units = VecText::from_utf16(alloc, &[0x61, 0xE9, 0x20AC, 0xD83D, 0xDE00])?.expect(
+        &rt,
+        "five units",
+    );
     rows_hold(
         &rt,
         &mut units,
@@ -222,31 +180,15 @@ fn every_offset_has_its_index_and_back(rt: HostRuntime) -> Result<(), OutOfMemor
         ],
     );
     // a lone second half, 'A', a lone first half
-    let words = Vec::from_slice(alloc, &[0xD800_0041_DC00])?;
-    let mut lone = text16(words, 3).expect(&rt, "units");
+    let mut lone = VecText::from_utf16(alloc, &[0xDC00, 0x41, 0xD800])?.expect(&rt, "three units");
     rows_hold(
         &rt,
         &mut lone,
         &[(0xFFFD, 65545), (0x41, 131081), (0xFFFD, 196617)],
     );
-    let words = Vec::from_slice(alloc, &[0])?;
-    let mut none = text8(alloc, words, 0)?.expect(&rt, "UTF-8");
+    let mut none = VecText::from_utf8(alloc, "")?.expect(&rt, "no byte");
     rows_hold(&rt, &mut none, &[]);
     Ok(())
-}
-
-/// A word 15 times, two others, and a word 15 times.
-fn framed(alloc: Global, side: u64, before: u64, behind: u64) -> Result<Vec<u64>, OutOfMemory> {
-    let mut words = Vec::new(alloc);
-    for _ in 0..15 {
-        words.push(side)?;
-    }
-    words.push(before)?;
-    words.push(behind)?;
-    for _ in 0..15 {
-        words.push(side)?;
-    }
-    Ok(words)
 }
 
 /// The counts, the index of the unit in the middle, and each offset there and back.
@@ -284,21 +226,12 @@ fn long_holds(rt: &impl Abort, t: &mut VecText, middle: u64) {
 #[test]
 fn long_texts_have_every_offset(rt: HostRuntime) -> Result<(), OutOfMemory> {
     let alloc = rt.alloc();
-    let words = framed(
-        alloc,
-        0xA9C3_A9C3_A9C3_A9C3,
-        0x9FF0_A9C3_A9C3_A9C3,
-        0xA9C3_A9C3_A9C3_8098,
-    )?;
-    let mut bytes = text8(alloc, words, 256)?.expect(&rt, "UTF-8");
+    let accented = ["é"; 63].concat(alloc)?;
+    let text = format!(in alloc; "{accented}😀{accented}")?;
+    let mut bytes = VecText::from_utf8(alloc, text.as_str())?.expect(&rt, "256 bytes");
     long_holds(&rt, &mut bytes, 8273924);
-    let words = framed(
-        alloc,
-        0x00E9_00E9_00E9_00E9,
-        0xD83D_00E9_00E9_00E9,
-        0x00E9_00E9_00E9_DE00,
-    )?;
-    let mut units = text16(words, 128).expect(&rt, "units");
+    let spelt = text.encode_utf16().collect::<Vec<u16>>(alloc)?;
+    let mut units = VecText::from_utf16(alloc, spelt.as_slice())?.expect(&rt, "128 units");
     long_holds(&rt, &mut units, 4194312);
     Ok(())
 }

@@ -1,4 +1,5 @@
 pub mod Owned
+pub mod Packed
 pub mod Telling
 pub mod Backing
 pub mod Passing

@@ -1,12 +1,8 @@
 -- Words of one's own denote their text.
-use Rattle.std.proofs.Common.{◌≡◌, refl, sym, ap, subst, ℕ, ◌*◌, ◌<◌, ◌≤◌, List, [], length, Option, Some, None, IsSome, arith}
+use Rattle.std.proofs.Common.{◌≡◌, refl, sym, ap, subst, ℕ, ◌<◌, List, [], length, Option, Some, None, IsSome, arith}
 use Rattle.std.specs.Option.{unwrap_or}
-use Rattle.std.proofs.lemmas.Bool.{le-leb}
-use Rattle.std.proofs.lemmas.Str.{is_utf8-from_IsUtf8}
-use Rattle.std.specs.Str.{IsUtf8}
 use Rattle.text_spec.specs.declared.encoding.Encoding.{Encoding}
-use Rattle.text_spec.specs.declared.encoding.Encoding.TheVariants.{Utf8}
-use Rattle.text_spec.specs.Packed.{bytes_of, content_words, denoted_text}
+use Rattle.text_spec.specs.Packed.{content_words, denoted_text}
 use Rattle.text_spec.specs.Views.{size_in}
 use Rattle.text_spec.proofs.Denoting.{denoted_size, denoted_room}
 use Rattle.word_units.specs.Owned.{text_of}
@@ -25,8 +21,3 @@ word_inside ws e n v k some same h =
     let is = text_of-denoted e ws n some in
     let inside : k < content_words e (size_in e (text_of (ws, e, n))) = subst (λ t. k < content_words (t.1) (size_in (t.1) (text_of t))) (sym same) h in
     omega (arith, inside, denoted_room e ws n _ is, ap (content_words e) (denoted_size e ws n _ is))
-
--- bytes that are UTF-8, and for which there is room, denote a text
-pub utf8_denoted : (ws bs : List ℕ) (n : ℕ) → n ≤ 8 * length ws → IsUtf8 bs → bs ≡ bytes_of ws n → IsSome (denoted_text Utf8 ws n)
-utf8_denoted ws bs n room ok same =
-    rw (le-leb n (8 * length ws) room, is_utf8-from_IsUtf8 (bytes_of ws n) (subst IsUtf8 same ok)) refl

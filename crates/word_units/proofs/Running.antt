@@ -1,10 +1,10 @@
 -- Eight bytes of ASCII, and one scalar by its lead byte.
-use Rattle.std.proofs.Common.{◌≡◌, refl, sym, ap, subst, ◌∙◌, ℕ, zero, suc, ◌+◌, ◌-◌, ◌*◌, ◌/◌, ◌%◌, ◌^◌, ◌<◌, ◌≤◌, inl, inr, ⊎_elim, List, length, get_or, arith, Some}
+use Rattle.std.proofs.Common.{◌≡◌, refl, sym, ap, subst, ◌∙◌, ℕ, zero, suc, ◌+◌, ◌-◌, ◌*◌, ◌/◌, ◌%◌, ◌^◌, ◌<◌, ◌≤◌, inl, inr, ⊎_elim, List, get_or, arith, Some}
 use lib.Bits.{bit_and, and_block}
 use Rattle.std.proofs.lemmas.Bool.{cases_lt, cond-true, cond-false, lt-ltb, le-ltb}
 use Rattle.std.specs.Char.{len_utf8}
 use Rattle.text_spec.specs.declared.encoding.Encoding.{Encoding}
-use Rattle.text_spec.specs.declared.encoding.Encoding.TheVariants.{Utf8, Utf16}
+use Rattle.text_spec.specs.declared.encoding.Encoding.TheVariants.{Utf8}
 use Rattle.text_spec.specs.Offsets.{len_utf16, start, down}
 use Rattle.text_spec.specs.Packed.{byte_of, denoted_text}
 use Rattle.text_spec.specs.Views.{size_in}
@@ -12,7 +12,7 @@ use Rattle.text_spec.proofs.Widths.{len16_cases, len8_pair}
 use Rattle.word_units.specs.Running.{PassesRun}
 use Rattle.word_units.specs.Walking.{Passes}
 use Rattle.word_units.proofs.Passing.{passes}
-use Rattle.word_units.proofs.Telling.{Told8, told8, width-is}
+use Rattle.word_units.proofs.Telling.{told8, width-is}
 
 -- ---- the high bits of the bytes of a word
 abbrev mask : ℕ → ℕ

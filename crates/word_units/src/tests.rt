@@ -1,10 +1,7 @@
 //! What no clause says: that each call answers at a concrete type, and what the readers give at texts written out by hand, with a word's
 //! edge at each of its places inside a scalar, and with lone halves of pairs at both ends.
-ghost use Rattle.std.specs.Prelude.{◌≡◌, ◌+◌, ◌*◌, ◌^◌, ◌<◌, ◌≤◌, IfOk, length};
+ghost use Rattle.std.specs.Prelude.{◌≡◌};
 ghost use Rattle.text_spec.specs.declared.encoding.Encoding.TheVariants.{Utf8, Utf16};
-ghost use Rattle.text_spec.specs.Offsets.{start, down};
-ghost use Rattle.text_spec.specs.Packed.{byte_of, bytes_of};
-ghost use Rattle.text_spec.specs.Views.{width_in, size_in};
 
 use crate::*;
 use std::alloc::Global;
@@ -12,65 +9,6 @@ use std::marker::Brand;
 use std::process::Abort;
 use std::sync::ledger::{Blank, Ledger};
 use text_spec::{Encoding, OutOfMemory};
-
-/// Code units packed into words, `per_word` of `bits` bits each, least first.
-fn pack(alloc: Global, units: &[u16], per_word: u32, bits: u32) -> Result<Vec<u64>, OutOfMemory> {
-    let mut words = Vec::new(alloc);
-    let mut word: u64 = 0;
-    let mut filled: u32 = 0;
-    for unit in units {
-        word |= (*unit as u64).wrapping_shl(bits.wrapping_mul(filled));
-        filled = filled.wrapping_add(1);
-        if filled >= per_word {
-            words.push(word)?;
-            word = 0;
-            filled = 0;
-        }
-    }
-    words.push(word)?;
-    Ok(words)
-}
-
-/// Byte `p` of words.
-fn held_byte(words: &[u64], p: u64) -> u8
-    requires { p < 8 * length words.now }
-    ensures { result ≡ byte_of words.now p }
-{
-    let word = words[(p / 8) as usize];
-    ((word >> (8 * (p % 8))) % 256) as u8
-}
-
-/// The first `count` bytes of words.
-fn held_bytes(alloc: Global, words: &[u64], count: u64) -> Result<Vec<u8>, OutOfMemory>
-    requires { count ≤ 8 * length words.now }
-    ensures { IfOk result (λ bytes. bytes.items ≡ bytes_of words.now count) }
-{
-    let mut bytes = Vec::new(alloc);
-    for p in 0..count {
-        bytes.push(held_byte(words, p))?;
-    }
-    Ok(bytes)
-}
-
-/// The text of packed bytes, where they are UTF-8.
-fn text8(alloc: Global, words: Vec<u64>, count: u64) -> Result<Option<VecText>, OutOfMemory> {
-    if count >= 1_000_000 || count > 8 * words.len() as u64 {
-        return Ok(None);
-    }
-    let bytes = held_bytes(alloc, words.as_slice(), count)?;
-    match std::str::from_utf8(bytes.as_slice()) {
-        Ok(_) => Ok(Some(VecText::new(words, Encoding::Utf8, count))),
-        Err(_) => Ok(None),
-    }
-}
-
-/// The text of packed 16-bit units.
-fn text16(words: Vec<u64>, count: u64) -> Option<VecText> {
-    if count >= 1_000_000 || count > 4 * words.len() as u64 {
-        return None;
-    }
-    Some(VecText::new(words, Encoding::Utf16, count))
-}
 
 /// The scalars of a text, one after another.
 fn scalars_of<T: Text, L: Ledger>(
@@ -186,8 +124,7 @@ fn check_utf8(rt: &impl Abort, alloc: Global, text: &str) -> Result<(), OutOfMem
     for byte in text.bytes() {
         bytes.push(byte as u16)?;
     }
-    let words = pack(alloc, bytes.as_slice(), 8, 8)?;
-    let mut t = text8(alloc, words, bytes.len() as u64)?.expect(rt, "{text:?} is UTF-8");
+    let mut t = VecText::from_utf8(alloc, text)?.expect(rt, "{text:?} is short");
     let got = read_all(alloc, &mut t)?;
     assert_eq!(rt; got.scalars.as_str(), text);
     assert_eq!(rt; got.units.as_slice(), bytes.as_slice(), "bytes of {text:?}");
@@ -224,15 +161,6 @@ fn bytes_read_as_the_scalars_that_they_encode(rt: HostRuntime) -> Result<(), Out
     Ok(())
 }
 
-#[test]
-fn bytes_that_are_no_text_make_none(rt: HostRuntime) -> Result<(), OutOfMemory> {
-    for bytes in [[0x80, 0x61], [0xC3, 0x61], [0xED, 0xA0], [0x61, 0xFF]] {
-        let words = pack(rt.alloc(), &bytes, 8, 8)?;
-        assert!(rt; text8(rt.alloc(), words, 2)?.is_none());
-    }
-    Ok(())
-}
-
 fn check_utf16(
     rt: &impl Abort,
     alloc: Global,
@@ -241,8 +169,7 @@ fn check_utf16(
     read: &[u16],
     floors: &[u64],
 ) -> Result<(), OutOfMemory> {
-    let words = pack(alloc, units, 4, 16)?;
-    let mut t = text16(words, units.len() as u64).expect(rt, "there is room");
+    let mut t = VecText::from_utf16(alloc, units)?.expect(rt, "{scalars:?} is short");
     let got = read_all(alloc, &mut t)?;
     assert_eq!(rt; got.scalars.as_str(), scalars);
     assert_eq!(rt; got.units.as_slice(), read, "units of {scalars:?}");
@@ -339,8 +266,10 @@ fn check_surface<L: Ledger>(rt: &impl Abort, t: &mut VecText, blank: Blank)
 
 #[test]
 fn a_text_of_its_own_words_is_all_of_them(rt: HostRuntime) -> Result<(), OutOfMemory> {
-    let words = pack(rt.alloc(), &[0x61, 0xD83D, 0xDE00], 4, 16)?;
-    let mut t = text16(words, 3).expect(&rt, "there is room");
+    let mut t = VecText::from_utf16(rt.alloc(), &[0x61, 0xD83D, 0xDE00])?.expect(
+        &rt,
+        "three units",
+    );
     assert_eq!(&rt; t.count(), 3);
     assert!(&rt; t.encoding() == Encoding::Utf16);
     check_surface::<Brand>(&rt, &mut t, Blank::new(1));

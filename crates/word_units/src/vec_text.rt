@@ -1,12 +1,20 @@
-ghost use Rattle.std.specs.Prelude.{◌≡◌, ◌^◌, ◌<◌, IsSome, length};
+ghost use Rattle.std.specs.Prelude.{◌≡◌, ◌^◌, ◌<◌, ◌≤◌, ◌↔◌, IsSome, IsNone, IfSome, IfOk, length, chars};
+ghost use Rattle.text_spec.specs.declared.encoding.Encoding.TheVariants.{Utf8, Utf16};
 ghost use Rattle.text_spec.specs.Packed.{denoted_text};
+ghost use Rattle.text_spec.specs.Text.{repair};
 ghost use Rattle.word_units.specs.Owned.{text_of};
+ghost use Rattle.word_units.specs.Packing.{byte_words, unit_words};
 
+use crate::content_words::{byte_word, unit_word};
 use crate::steps::Steps;
 use crate::text::Text;
+use std::alloc::Global;
 use std::marker::Model;
 use std::sync::ledger::Ledger;
-use text_spec::Encoding;
+use text_spec::{Encoding, OutOfMemory};
+
+// A text has fewer code units, so that each place has an index.
+const MOST_UNITS: u64 = 1 << 48;
 
 /// Words of its own, all of which is the text. Its breadcrumbs are never known, and it is never marked ASCII.
 #[derive(Drop)]
@@ -42,6 +50,40 @@ impl VecText {
             encoding,
             count,
         }
+    }
+
+    /// A text as its UTF-8, eight bytes to a word: none where it has 2^48 bytes or more.
+    pub fn from_utf8(alloc: Global, text: &str) -> Result<Option<VecText>, OutOfMemory>
+        ensures words { IfOk result (λ made. IfSome made (λ t. t ≡ (byte_words text.now, Utf8, length text.now))) }
+        ensures text { IfOk result (λ made. IfSome made (λ t. text_of t ≡ chars text.now)) }
+        ensures too_long { IfOk result (λ made. IsNone made ↔ (2 ^ 48 ≤ length text.now)) }
+    {
+        let bytes = text.as_bytes();
+        if bytes.len() as u64 >= MOST_UNITS {
+            return Ok(None);
+        }
+        let mut words = Vec::new(alloc);
+        for k in 0..(bytes.len() + 7) / 8 {
+            words.push(byte_word(bytes, k))?;
+        }
+        Ok(Some(VecText::new(words, Encoding::Utf8, bytes.len() as u64)))
+    }
+
+    /// The text that UTF-16 units spell, kept as these units, four to a word: none where there are 2^48 units or more. A surrogate without
+    /// its other half reads as U+FFFD.
+    pub fn from_utf16(alloc: Global, units: &[u16]) -> Result<Option<VecText>, OutOfMemory>
+        ensures words { IfOk result (λ made. IfSome made (λ t. t ≡ (unit_words units.now, Utf16, length units.now))) }
+        ensures text { IfOk result (λ made. IfSome made (λ t. text_of t ≡ repair units.now)) }
+        ensures too_long { IfOk result (λ made. IsNone made ↔ (2 ^ 48 ≤ length units.now)) }
+    {
+        if units.len() as u64 >= MOST_UNITS {
+            return Ok(None);
+        }
+        let mut words = Vec::new(alloc);
+        for k in 0..(units.len() + 3) / 4 {
+            words.push(unit_word(units, k))?;
+        }
+        Ok(Some(VecText::new(words, Encoding::Utf16, units.len() as u64)))
     }
 }
 

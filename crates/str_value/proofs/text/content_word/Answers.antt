@@ -1,5 +1,5 @@
 use Rattle.std.proofs.Common.{ap, ◌∙◌, length, arith}
-use Rattle.str_value.specs.Stored.{byte_word, unit_word}
+use Rattle.word_units.specs.Packing.{byte_word, unit_word}
 use Rattle.str_value.proofs.Kept.{two-words, object-word, byte-inside, byte-word, unit-inside, unit-word}
 use Rattle.str_value.proofs.text.content_word.Goals as goal
 

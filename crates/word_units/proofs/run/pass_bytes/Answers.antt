@@ -1,4 +1,4 @@
-use Rattle.std.proofs.Common.{◌≡◌, refl, ap, ◌∙◌, ◌+◌, ◌*◌, ◌/◌, ◌%◌, ◌^◌, ◌≤◌, arith}
+use Rattle.std.proofs.Common.{arith}
 use Rattle.word_units.proofs.Running.{lead_run, ascii_run}
 use Rattle.word_units.proofs.run.pass_bytes.Goals as goal
 

@@ -1,7 +1,4 @@
-use Rattle.std.proofs.Common.{◌≡◌, sym, ap, ◌∙◌, subst, length, arith}
-use Rattle.text_spec.specs.Boundaries.{IsScalarBoundary}
-use Rattle.text_spec.specs.Text.{utf8}
-use Rattle.text_spec.specs.Views.{width_in}
+use Rattle.std.proofs.Common.{◌∙◌, arith}
 use Rattle.str_value.proofs.Kept.{words-kept, bytes-kept, units-kept, limit-kept}
 use Rattle.str_value.proofs.Parts.{length-part8, length-part16, inside-part16, part-limit}
 use Rattle.str_value.proofs.value.Str.utf8_length.Goals as goal

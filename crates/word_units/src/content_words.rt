@@ -1,12 +1,12 @@
 //! Content words out of bytes and units that are kept apart.
 ghost use Rattle.std.specs.Prelude.{◌≡◌, ◌+◌, ◌*◌, ◌<◌, ◌≤◌, length, slice_index};
 ghost use Rattle.std.specs.Int.{w64, from_le_bytes};
-ghost use Rattle.str_value.specs.Stored as stored;
+ghost use Rattle.word_units.specs.Packing as packing;
 
 /// Word `k` of bytes: bytes `8 * k` on, least first, and zeros behind the last.
-pub(crate) fn byte_word(bytes: &[u8], k: usize) -> u64
+pub fn byte_word(bytes: &[u8], k: usize) -> u64
     requires { 8 * k < length bytes.now }
-    ensures { result ≡ stored.byte_word bytes.now k }
+    ensures { result ≡ packing.byte_word bytes.now k }
 {
     let rest = &bytes[8 * k..];
     if rest.len() >= 8 {
@@ -37,9 +37,9 @@ fn last_word(bytes: &[u8]) -> u64
 }
 
 /// Word `k` of 16-bit units: units `4 * k` on, least first, and zeros behind the last.
-pub(crate) fn unit_word(units: &[u16], k: usize) -> u64
+pub fn unit_word(units: &[u16], k: usize) -> u64
     requires { 4 * k < length units.now }
-    ensures { result ≡ stored.unit_word units.now k }
+    ensures { result ≡ packing.unit_word units.now k }
 {
     unit_or_zero(units, 4 * k) as u64
         + ((unit_or_zero(units, 4 * k + 1) as u64) << 16)
@@ -48,7 +48,7 @@ pub(crate) fn unit_word(units: &[u16], k: usize) -> u64
 }
 
 /// Unit `p`, or zero behind the last.
-pub(crate) fn unit_or_zero(units: &[u16], p: usize) -> u16
+pub fn unit_or_zero(units: &[u16], p: usize) -> u16
     ensures { result ≡ slice_index units.now p }
 {
     if p < units.len() { units[p] } else { 0 }

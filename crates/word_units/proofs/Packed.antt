@@ -1,7 +1,8 @@
 -- Bytes and units that are packed into words, read back.
-use Rattle.std.proofs.Common.{◌≡◌, refl, sym, ap, subst, ◌∙◌, ℕ, zero, suc, ◌+◌, ◌*◌, ◌/◌, ◌%◌, ◌^◌, ◌<◌, ◌≤◌, List, [], ◌∷◌, length, map, drop, get_or, slice_index, w64, chars, IsUtf8, Some, None, arith, nat_le}
-use Rattle.std.specs.Int.{to_le_bytes, from_le_bytes}
+use Rattle.std.proofs.Common.{◌≡◌, refl, sym, ap, subst, ◌∙◌, ℕ, zero, suc, IsSome, ◌+◌, ◌*◌, ◌/◌, ◌%◌, ◌^◌, ◌<◌, ◌≤◌, List, [], ◌∷◌, length, map, drop, get_or, slice_index, w64, chars, IsUtf8, Some, None, arith, nat_le}
+use Rattle.std.specs.Int.{to_le_bytes}
 use Rattle.std.specs.List.{range_with_len}
+use Rattle.std.specs.Option.{unwrap_or}
 use Rattle.std.specs.Str.{is_utf8}
 use Rattle.std.proofs.Math.Nat.{div-one}
 use Rattle.std.proofs.lemmas.Bool.{le-leb, cond-true}
@@ -9,10 +10,12 @@ use Rattle.std.proofs.lemmas.Nat.{le_bytes_8}
 use Rattle.std.proofs.lemmas.List.{get_or-drop}
 use Rattle.std.proofs.lemmas.List.FromFn.{get_or-map-range_with_len, fill_by_all, length-map-range_with_len}
 use Rattle.std.proofs.lemmas.Str.{is_utf8-from_IsUtf8}
+use Rattle.text_spec.specs.declared.encoding.Encoding.{Encoding}
 use Rattle.text_spec.specs.declared.encoding.Encoding.TheVariants.{Utf8, Utf16}
 use Rattle.text_spec.specs.Packed.{byte_of, unit_of, bytes_of, units_of, content_words, denoted_text}
 use Rattle.text_spec.specs.Text.{repair}
-use Rattle.str_value.specs.Stored.{byte_word, unit_word}
+use Rattle.word_units.specs.Owned.{text_of}
+use Rattle.word_units.specs.Packing.{byte_word, unit_word, byte_words, unit_words}
 
 -- ---- a word of eight bytes
 read_byte : (n j : ℕ) → j < 8 → n / 2 ^ (8 * j) % 256 ≡ slice_index (to_le_bytes w64 n) j
@@ -86,12 +89,6 @@ unit-of_word units k j fits h =
     unit-of_four _ _ _ _ j (fits (4 * k)) (fits (4 * k + 1)) (fits (4 * k + 2)) (fits (4 * k + 3)) h ∙ four-at units (4 * k) j h
 
 -- ---- all words
-abbrev pub byte_words : List ℕ → List ℕ
-byte_words bytes = map (byte_word bytes) (range_with_len 0 (content_words Utf8 (length bytes)))
-
-abbrev pub unit_words : List ℕ → List ℕ
-unit_words units = map (unit_word units) (range_with_len 0 (content_words Utf16 (length units)))
-
 byte-packed : (bytes : List ℕ) (p : ℕ) → ((i : ℕ) → slice_index bytes i < 2 ^ 8) → p < length bytes → byte_of (byte_words bytes) p ≡ get_or bytes p 0
 byte-packed bytes p fits h =
     ap (λ w. w / 2 ^ (8 * (p % 8)) % 256) (get_or-map-range_with_len (byte_word bytes) 0 (content_words Utf8 (length bytes)) (p / 8) (p / 8) 0 (omega arith) (omega arith))
@@ -126,3 +123,29 @@ units-denoted units fits =
     cond-true (nat_le (length units) (4 * length ws)) _ None
     (le-leb (length units) (4 * length ws) (omega (arith, length-map-range_with_len (unit_word units) 0 (content_words Utf16 (length units)))))
     ∙ ap (λ us. Some (repair us)) (units-packed units fits)
+
+-- ---- the words packed so far are all of them once they are as many as the code units take
+abbrev Kept : Type 0
+Kept = List ℕ × Encoding × ℕ
+
+abbrev pub kept : Encoding → List ℕ → List ℕ → Kept
+kept e ws units = (ws, e, length units)
+
+pub bytes-all : (bytes bs ws : List ℕ) (k : ℕ) → ws ≡ map (byte_word bytes) (range_with_len 0 k) → bs ≡ bytes → k ≤ (length bs + 7) / 8 → (length bs + 7) / 8 ≤ k
+    → kept Utf8 ws bs ≡ kept Utf8 (byte_words bytes) bytes
+bytes-all bytes bs ws k so e below above =
+    let same : k ≡ content_words Utf8 (length bytes) = omega (arith, ap length e) in
+    ap (λ v. kept Utf8 v bs) (so ∙ ap (λ n. map (byte_word bytes) (range_with_len 0 n)) same) ∙ ap (kept Utf8 (byte_words bytes)) e
+
+pub units-all : (units us ws : List ℕ) (k : ℕ) → ws ≡ map (unit_word units) (range_with_len 0 k) → us ≡ units → k ≤ (length us + 3) / 4 → (length us + 3) / 4 ≤ k
+    → kept Utf16 ws us ≡ kept Utf16 (unit_words units) units
+units-all units us ws k so e below above =
+    let same : k ≡ content_words Utf16 (length units) = omega (arith, ap length e) in
+    ap (λ v. kept Utf16 v us) (so ∙ ap (λ n. map (unit_word units) (range_with_len 0 n)) same) ∙ ap (kept Utf16 (unit_words units)) e
+
+-- words that are those which denote a text denote it
+pub some_of : (t v : Kept) (text : List ℕ) → t ≡ v → denoted_text (v.1) (v.0) (v.2) ≡ Some text → IsSome (denoted_text (t.1) (t.0) (t.2))
+some_of t v text same e = subst (λ w. IsSome (denoted_text (w.1) (w.0) (w.2))) (sym same) (subst IsSome (sym e) refl)
+
+pub text_is : (t v : Kept) (text : List ℕ) → t ≡ v → denoted_text (v.1) (v.0) (v.2) ≡ Some text → text_of t ≡ text
+text_is t v text same e = ap text_of same ∙ ap (λ o. unwrap_or o []) e
