@@ -58,6 +58,8 @@ pub use side::Installed;
 pub use view::{Role, View};
 
 #[cfg(test)]
+mod literal_tests;
+#[cfg(test)]
 mod sharing_tests;
 #[cfg(test)]
 mod side_tests;

@@ -1,13 +1,12 @@
 //! Two owners of one slot that offer it a side at once, in threads, and one that takes its side away and installs another.
 ghost use Rattle.std.specs.Prelude.{◌≡◌, ◌<◌, length, IfSome};
 
-use crate::tests::{ended, layout, stored};
-use crate::{Heap, Installed, Pass, Ref, Whole};
+use crate::tests::{closed, ended, layout, opened, share_of, stored};
+use crate::{Installed, Pass, Ref, Whole};
 use slot_model::Attach;
 use std::alloc::Global;
 use std::test::Fail;
 use std::thread::{Threads, join_mut};
-use text_spec::TextList;
 
 // A side has a word at least.
 struct NotEmpty;
@@ -20,13 +19,14 @@ impl Attach for NotEmpty {
     }
 }
 
-// A pass, a reference, the word that it offers as a side, whether that won, the word that it then reads of the side, and whether its pass has
+// A pass, a reference, the word that it offers as a side, how often it reads its slot before, whether that won, the word that it then reads of the side, and whether its pass has
 // one free slot fewer where it won, and as many as before where it lost.
 #[derive(Drop)]
 struct Racer<'h> {
     pass: Pass<'h, NotEmpty>,
     held: Ref<'h, NotEmpty>,
     offer: u64,
+    pause: u32,
     won: bool,
     found: u64,
     slots_are_right: bool,
@@ -51,9 +51,12 @@ fn offered<'h>(
 }
 
 fn race<'h>(racer: &mut Racer<'h>)
-    requires { racer.old.held.heap ≡ racer.old.pass.heap }
+    requires { (racer.old.held.heap ≡ racer.old.pass.heap) × (0 < length racer.old.held.known) }
     ensures { (racer.new.held.heap ≡ racer.new.pass.heap) × (racer.new.pass.heap ≡ racer.old.pass.heap) }
 {
+    for _ in 0..racer.pause {
+        racer.held.read(0);
+    }
     let before = racer.pass.free_slots();
     if let Some((won, found)) = offered(&mut racer.held, &mut racer.pass, racer.offer) {
         racer.won = won;
@@ -63,92 +66,105 @@ fn race<'h>(racer: &mut Racer<'h>)
     }
 }
 
-// Two owners of one new slot race. Whether one of them won, and both read the side that it offered.
+fn ready<'h>(
+    alloc: Global,
+    pass: &mut Pass<'h, NotEmpty>,
+    held: Ref<'h, NotEmpty>,
+    offer: u64,
+    pause: u32,
+) -> Option<Racer<'h>>
+    requires { (held.heap ≡ pass.old.heap) × (0 < length held.known) }
+    ensures pass { pass.new.heap ≡ pass.old.heap }
+    ensures racer { IfSome result (λ r. (r.held.heap ≡ pass.old.heap) × (r.pass.heap ≡ pass.old.heap) × (0 < length r.held.known)) }
+{
+    let share = share_of(alloc, pass, 1)?;
+    Some(Racer {
+        pass: share,
+        held,
+        offer,
+        pause,
+        won: false,
+        found: 0,
+        slots_are_right: false,
+    })
+}
+
+// The one that is left takes the side away and installs another, and gives its slot up. Whether each call went right.
+fn replaced<'h>(mut held: Ref<'h, NotEmpty>, pass: &mut Pass<'h, NotEmpty>) -> Option<bool>
+    requires { held.heap ≡ pass.old.heap }
+    ensures { pass.new.heap ≡ pass.old.heap }
+{
+    let known = held.known_side();
+    if !held.sole() {
+        return None;
+    }
+    let taken = held.detach(pass);
+    let bare = known.is_some() && taken == known && held.bare() && held.look().is_none();
+    let again = offered(&mut held, pass, 33)?;
+    Some(bare && again == (true, 33) && held.release(pass))
+}
+
+// Two owners of one new slot race. Whether one of them won, both read the side that it offered, and the one left replaces it.
 fn race_once<'h, R: Threads>(
     rt: &R,
     alloc: Global,
-    mut pass: Pass<'h, NotEmpty>,
-) -> Option<(Pass<'h, NotEmpty>, bool)>
-    ensures { IfSome result (λ t. t.0.heap ≡ pass.entry.heap) }
+    pass: &mut Pass<'h, NotEmpty>,
+    round: u32,
+) -> Option<bool>
+    ensures { pass.new.heap ≡ pass.old.heap }
 {
-    let mut held = stored(&mut pass, 7)?;
-    let copy = held.retain(&mut pass)?;
-    if pass.free_slots() < 2 || pass.credits() < 3 {
-        return None;
-    }
-    let Ok(second) = pass.split(alloc, 1, 1) else {
-        return None;
-    };
-    let mut one = Racer {
-        pass,
-        held,
-        offer: 11,
-        won: false,
-        found: 0,
-        slots_are_right: false,
-    };
-    let mut other = Racer {
-        pass: second,
-        held: copy,
-        offer: 22,
-        won: false,
-        found: 0,
-        slots_are_right: false,
-    };
+    let mut held = stored(pass, 7)?;
+    let copy = held.retain(pass)?;
+    // A thread takes its time to start, so the second owner begins later in each round of a hundred: both come first in some.
+    let mut one = ready(alloc, pass, held, round as u64 * 2, 0)?;
+    let mut other = ready(alloc, pass, copy, round as u64 * 2 + 1, round % 100 * 400)?;
     join_mut(rt, &mut || race(&mut one), &mut || race(&mut other));
-    Some(judged(one, other))
+    judged(one, other, pass)
 }
 
-// Whether the race went right. Both give their reference up, and their passes are joined.
-fn judged<'h>(one: Racer<'h>, other: Racer<'h>) -> (Pass<'h, NotEmpty>, bool)
-    requires one { one.held.heap ≡ one.pass.heap }
-    requires other { other.held.heap ≡ other.pass.heap }
-    requires heap { other.pass.heap ≡ one.pass.heap }
-    ensures { result.0.heap ≡ one.entry.pass.heap }
+// Whether a race went right. What the racers have comes to the pass.
+fn judged<'h>(one: Racer<'h>, other: Racer<'h>, pass: &mut Pass<'h, NotEmpty>) -> Option<bool>
+    requires one { (one.held.heap ≡ pass.old.heap) × (one.pass.heap ≡ pass.old.heap) }
+    requires other { (other.held.heap ≡ pass.old.heap) × (other.pass.heap ≡ pass.old.heap) }
+    ensures { pass.new.heap ≡ pass.old.heap }
 {
-    let Racer {
-        mut pass,
-        held,
-        offer,
-        won,
-        found,
-        slots_are_right,
-    } = one;
-    let Racer {
-        pass: mut second,
-        held: copy,
-        offer: second_offer,
-        won: second_won,
-        found: second_found,
-        slots_are_right: second_slots_are_right,
-    } = other;
-    let wanted = if won { offer } else { second_offer };
-    let right = won != second_won
-        && found == wanted
-        && second_found == wanted
-        && slots_are_right
-        && second_slots_are_right;
-    copy.release(&mut second);
-    held.release(&mut pass);
-    pass.join(second);
-    (pass, right)
+    let wanted = if one.won { one.offer } else { other.offer };
+    let right = one.won != other.won
+        && one.found == wanted
+        && other.found == wanted
+        && one.slots_are_right
+        && other.slots_are_right;
+    pass.join(one.pass);
+    pass.join(other.pass);
+    let shared = !other.held.release(pass);
+    let replaced = replaced(one.held, pass)?;
+    Some(right && shared && replaced)
 }
 
-// How many of five races went right, and the whole pass at the end.
-fn five_races<'h, R: Threads>(
+// How many of so many races went right.
+fn races<'h, R: Threads>(rt: &R, alloc: Global, pass: &mut Pass<'h, NotEmpty>, rounds: u32) -> u32
+    ensures { pass.new.heap ≡ pass.old.heap }
+{
+    let mut right: u32 = 0;
+    for round in 0..rounds {
+        if race_once(rt, alloc, pass, round) == Some(true) {
+            right = right.wrapping_add(1);
+        }
+    }
+    right
+}
+
+// The same, and the whole pass at the end.
+fn many_races<'h, R: Threads>(
     rt: &R,
     alloc: Global,
-    pass: Pass<'h, NotEmpty>,
-) -> Option<(u32, Option<Whole<NotEmpty>>)>
-    ensures { IfSome result (λ t. IfSome t.1 (λ w. w.heap ≡ pass.entry.heap)) }
+    mut pass: Pass<'h, NotEmpty>,
+    rounds: u32,
+) -> (u32, Option<Whole<NotEmpty>>)
+    ensures { IfSome result.1 (λ w. w.heap ≡ pass.entry.heap) }
 {
-    let (pass, first) = race_once(rt, alloc, pass)?;
-    let (pass, second) = race_once(rt, alloc, pass)?;
-    let (pass, third) = race_once(rt, alloc, pass)?;
-    let (pass, fourth) = race_once(rt, alloc, pass)?;
-    let (pass, fifth) = race_once(rt, alloc, pass)?;
-    let right = first as u32 + second as u32 + third as u32 + fourth as u32 + fifth as u32;
-    Some((right, ended(pass)))
+    let right = races(rt, alloc, &mut pass, rounds);
+    (right, ended(pass))
 }
 
 // A side is installed, taken away, and another installed. What the calls answered in turn.
@@ -172,43 +188,27 @@ fn installed_again(
 }
 
 #[test]
-fn one_of_two_installs_wins(rt: HostRuntime) -> Result<(), Fail> {
+fn one_of_two_installs_wins_each_race(rt: HostRuntime) -> Result<(), Fail> {
     let alloc = rt.alloc();
-    let Ok((heap, whole)) = Heap::<NotEmpty>::open(alloc, &layout(2, 3, 8), &TextList::new(alloc))
-    else {
-        panic!(rt; "no heap")
-    };
-    let Some((right, Some(whole))) = five_races(&rt, alloc, heap.pass(whole)) else {
+    let (heap, whole) = opened::<NotEmpty, HostRuntime>(&rt, alloc, &layout(2, 3, 8));
+    let (right, Some(whole)) = many_races(&rt, alloc, heap.pass(whole), 1000) else {
         panic!(rt; "something is still out")
     };
-    assert_eq!(rt; right, 5, "races that one owner won, and both saw it");
-    let closed = heap.close(whole);
-    assert_eq!(rt;
-        (closed.slots(), closed.idle()),
-        (3, 3),
-        "slots and idle slots"
-    );
+    assert_eq!(rt; right, 1000, "races that one owner won, and both saw it");
+    assert_eq!(rt; closed(heap, whole), (3, 3), "slots and idle slots");
     Ok(())
 }
 
 #[test]
 fn a_side_is_taken_away_and_another_installed(rt: HostRuntime) -> Result<(), Fail> {
     let alloc = rt.alloc();
-    let Ok((heap, whole)) = Heap::<NotEmpty>::open(alloc, &layout(2, 2, 3), &TextList::new(alloc))
-    else {
-        panic!(rt; "no heap")
-    };
+    let (heap, whole) = opened::<NotEmpty, HostRuntime>(&rt, alloc, &layout(2, 2, 3));
     let Some((first, bare, second, Some(whole))) = installed_again(heap.pass(whole)) else {
         panic!(rt; "a call was refused")
     };
     assert_eq!(rt; first, (true, 11), "the first side");
     assert!(rt; bare, "the slot isn't bare between the two");
     assert_eq!(rt; second, (true, 22), "the second side");
-    let closed = heap.close(whole);
-    assert_eq!(rt;
-        (closed.slots(), closed.idle()),
-        (2, 2),
-        "slots and idle slots"
-    );
+    assert_eq!(rt; closed(heap, whole), (2, 2), "slots and idle slots");
     Ok(())
 }

@@ -1,13 +1,15 @@
 //! What no clause says: that the calls succeed where memory and slots are there, with one owner and with two in threads.
 //!
 //! The values are worked out by hand from the layouts.
-ghost use Rattle.std.specs.Prelude.{◌≡◌, [], ◌∷◌, true, None, IfSome};
+ghost use Rattle.std.specs.Prelude.{◌≡◌, ◌<◌, [], ◌∷◌, true, None, IfSome};
 ghost use Rattle.slot_model.specs.declared.event.Event.TheVariants.{Publish, Release, Detach};
-ghost use Rattle.slot_table.specs.Owners.{Adds, IsEntire};
+ghost use Rattle.slot_table.specs.Owners.{Adds, IsEntire, opened_pass};
+ghost use Rattle.slot_table.specs.Seats.{down_from};
 
 use crate::{Heap, Missing, OpenError, Pass, Ref, Whole};
 use slot_model::{Attach, Layout};
 use std::alloc::Global;
+use std::process::Abort;
 use std::test::Fail;
 use std::thread::{Threads, join_mut};
 use text_spec::TextList;
@@ -30,6 +32,30 @@ pub(crate) fn layout(capacity_words: u32, slots: u32, credits: u32) -> Layout {
     }
 }
 
+// A heap that has no literals, and the right to the whole of it.
+pub(crate) fn opened<A: Attach, R: Abort>(
+    rt: &R,
+    alloc: Global,
+    layout: &Layout,
+) -> (Heap<A>, Whole<A>)
+    ensures layout { result.0.layout ≡ layout.now }
+    ensures whole { result.1 ≡ opened_pass result.0 (down_from layout.now.slots) }
+{
+    match Heap::open(alloc, layout, &TextList::new(alloc)) {
+        Ok(opened) => opened,
+        Err(_) => panic!(rt; "no heap"),
+    }
+}
+
+// How many slots a heap had, and how many of them are idle as it is closed.
+pub(crate) fn closed<A: Attach>(heap: Heap<A>, whole: Whole<A>) -> (u32, u32)
+    requires { whole.heap ≡ heap }
+    ensures { result ≡ (heap.layout.slots, heap.layout.slots) }
+{
+    let closed = heap.close(whole);
+    (closed.slots(), closed.idle())
+}
+
 // One slot with one word, published.
 pub(crate) fn stored<'h, A: Attach>(pass: &mut Pass<'h, A>, word: u64) -> Option<Ref<'h, A>>
     ensures pass { (pass.new.heap ≡ pass.old.heap) × (pass.new.front ≡ pass.old.front) × (pass.new.places ≡ pass.old.places) }
@@ -42,6 +68,24 @@ pub(crate) fn stored<'h, A: Attach>(pass: &mut Pass<'h, A>, word: u64) -> Option
     let mut draft = pass.draft()?;
     draft.write(word);
     Some(draft.publish())
+}
+
+// A pass with so many slots, and with one credit beside its stake.
+pub(crate) fn share_of<'h, A: Attach>(
+    alloc: Global,
+    pass: &mut Pass<'h, A>,
+    slots: u32,
+) -> Option<Pass<'h, A>>
+    ensures pass { pass.new.heap ≡ pass.old.heap }
+    ensures share { IfSome result (λ p. p.heap ≡ pass.old.heap) }
+{
+    if pass.free_slots() < slots || pass.credits() < 2 {
+        return None;
+    }
+    match pass.split(alloc, slots, 1) {
+        Ok(share) => Some(share),
+        Err(_) => None,
+    }
 }
 
 pub(crate) fn ended<A: Attach>(pass: Pass<'_, A>) -> Option<Whole<A>>
@@ -57,14 +101,17 @@ pub(crate) fn ended<A: Attach>(pass: Pass<'_, A>) -> Option<Whole<A>>
 // The history of these calls is Publish, Release and Detach.
 fn five_calls<A: Attach>(mut pass: Pass<'_, A>) -> Option<(Whole<A>, u64)>
     requires fresh { (pass.front ≡ []) × (pass.places ≡ []) }
+    requires room { 0 < pass.heap.layout.capacity_words }
     ensures heap { IfSome result (λ t. t.0.heap ≡ pass.entry.heap) }
     ensures history { IfSome result (λ t. (x : _) × (t.0.front ≡ Publish x (7 ∷ []) ∷ Release x true ∷ Detach x None ∷ [])) }
     ensures word { IfSome result (λ t. t.1 ≡ 7) }
 {
-    let mut reference = stored(&mut pass, 7)?;
+    let mut draft = pass.draft()?;
     if pass.draft().is_some() {
         return None;
     }
+    draft.write(7);
+    let mut reference = draft.publish();
     let word = reference.read(0);
     let mut pass = match pass.end() {
         Ok(_whole) => return None,
@@ -195,75 +242,44 @@ fn dropped(mut pass: Pass<'_, Anything>) -> bool {
 #[test]
 fn one_slot_comes_back(rt: HostRuntime) -> Result<(), Fail> {
     let alloc = rt.alloc();
-    let (heap, whole) = match Heap::<Anything>::open(
-        alloc,
-        &layout(4, 1, 2),
-        &TextList::new(alloc),
-    ) {
-        Ok(opened) => opened,
-        Err(_) => panic!(rt; "no heap"),
-    };
+    let (heap, whole) = opened::<Anything, HostRuntime>(&rt, alloc, &layout(4, 1, 2));
     let Some((whole, word)) = five_calls(heap.pass(whole)) else {
         panic!(rt; "an answer was another one")
     };
     assert_eq!(rt; word, 7, "the word published");
-    let closed = heap.close(whole);
-    assert_eq!(rt;
-        (closed.slots(), closed.idle()),
-        (1, 1),
-        "slots and idle slots"
-    );
+    assert_eq!(rt; closed(heap, whole), (1, 1), "slots and idle slots");
     Ok(())
 }
 
 #[test]
 fn drafts_passes_and_references_come_back(rt: HostRuntime) -> Result<(), Fail> {
     let alloc = rt.alloc();
-    let Ok((heap, whole)) = Heap::<Anything>::open(alloc, &layout(2, 3, 5), &TextList::new(alloc))
-    else {
-        panic!(rt; "no heap")
-    };
+    let (heap, whole) = opened::<Anything, HostRuntime>(&rt, alloc, &layout(2, 3, 5));
     let Some((whole, right)) = come_and_go(alloc, heap.pass(whole)) else {
         panic!(rt; "a call was refused")
     };
     assert!(rt; right, "an answer was another one");
-    let closed = heap.close(whole);
-    assert_eq!(rt;
-        (closed.slots(), closed.idle()),
-        (3, 3),
-        "slots and idle slots"
-    );
+    assert_eq!(rt; closed(heap, whole), (3, 3), "slots and idle slots");
     Ok(())
 }
 
 #[test]
 fn two_owners_in_two_threads(rt: HostRuntime) -> Result<(), Fail> {
     let alloc = rt.alloc();
-    let Ok((heap, whole)) = Heap::<Anything>::open(alloc, &layout(2, 2, 4), &TextList::new(alloc))
-    else {
-        panic!(rt; "no heap")
-    };
+    let (heap, whole) = opened::<Anything, HostRuntime>(&rt, alloc, &layout(2, 2, 4));
     let (a, b, whole) = halved(&rt, alloc, heap.pass(whole), 1000);
     assert_eq!(rt; (a, b), (1000, 1000), "rounds that went right");
     let Some(whole) = whole else {
         panic!(rt; "something is still out")
     };
-    let closed = heap.close(whole);
-    assert_eq!(rt;
-        (closed.slots(), closed.idle()),
-        (2, 2),
-        "slots and idle slots"
-    );
+    assert_eq!(rt; closed(heap, whole), (2, 2), "slots and idle slots");
     Ok(())
 }
 
 #[test]
 fn a_dropped_reference_is_missing(rt: HostRuntime) -> Result<(), Fail> {
     let alloc = rt.alloc();
-    let Ok((heap, whole)) = Heap::<Anything>::open(alloc, &layout(2, 1, 2), &TextList::new(alloc))
-    else {
-        panic!(rt; "no heap")
-    };
+    let (heap, whole) = opened::<Anything, HostRuntime>(&rt, alloc, &layout(2, 1, 2));
     assert!(rt; dropped(heap.pass(whole)), "the end was granted");
     Ok(())
 }
@@ -292,6 +308,7 @@ fn each_bad_layout_is_refused(rt: HostRuntime) -> Result<(), Fail> {
         (2, 1, 1_048_577, 1),
         (2, 1, 1_048_576, 0),
         (257, 65_536, 1, 1),
+        (1_048_576, 1, 1, 0),
     ];
     for (capacity_words, slots, credits, wanted) in rows {
         let got = refusal(alloc, &layout(capacity_words, slots, credits), &none);
@@ -307,6 +324,14 @@ fn each_bad_layout_is_refused(rt: HostRuntime) -> Result<(), Fail> {
 #[test]
 fn a_long_literal_is_named(rt: HostRuntime) -> Result<(), Fail> {
     let alloc = rt.alloc();
+    let mut two = TextList::new(alloc);
+    two.push("")?;
+    two.push("123456789")?;
+    assert_eq!(rt;
+        refusal(alloc, &layout(2, 1, 1), &two),
+        (2, 1),
+        "nine bytes behind an empty text"
+    );
     let mut literals = TextList::new(alloc);
     literals.push("")?;
     literals.push("12345678")?;
@@ -320,7 +345,7 @@ fn a_long_literal_is_named(rt: HostRuntime) -> Result<(), Fail> {
     assert_eq!(rt;
         refusal(alloc, &layout(2, 1, 1), &literals),
         (2, 2),
-        "nine bytes"
+        "nine bytes, and ten behind them"
     );
     assert_eq!(rt;
         refusal(alloc, &layout(1, 1, 1), &literals),
