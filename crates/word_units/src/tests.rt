@@ -28,6 +28,39 @@ fn scalars_of<T: Text, L: Ledger>(
     Ok(scalars)
 }
 
+/// What a walk from the start of a text to its end passed: where it ended, the code units of the other encoding, the scalars.
+type Passed = (u64, u64, u64);
+
+/// The walk that takes one scalar at a time.
+fn passed_by_scalars<T: Text, L: Ledger>(t: &mut T, steps: &mut Steps<L>) -> Passed {
+    let end = t.count();
+    let mut at = 0;
+    let mut units: u64 = 0;
+    let mut scalars: u64 = 0;
+    'scalars: while at < end {
+        let (next, more) = pass_scalar(t, at, steps);
+        at = next;
+        units = units.saturating_add(more);
+        scalars = scalars.saturating_add(1);
+    }
+    (at, units, scalars)
+}
+
+/// The walk that takes a word of ASCII at once.
+fn passed_by_runs<T: Text, L: Ledger>(t: &mut T, steps: &mut Steps<L>) -> Passed {
+    let end = t.count();
+    let mut at = 0;
+    let mut units: u64 = 0;
+    let mut scalars: u64 = 0;
+    'scalars: while at < end {
+        let (next, more, run) = pass_run(t, at, end - at, steps);
+        at = next;
+        units = units.saturating_add(more);
+        scalars = scalars.saturating_add(run);
+    }
+    (at, units, scalars)
+}
+
 /// The boundary at each place or before it, the end's too.
 fn floors_of<T: Text, L: Ledger>(
     alloc: Global,
@@ -93,6 +126,8 @@ struct Readings {
     scalars: String,
     units: Vec<u16>,
     floors: Vec<u64>,
+    by_scalars: Passed,
+    by_runs: Passed,
 }
 
 fn read_all_with<L: Ledger>(
@@ -112,11 +147,24 @@ fn read_all_with<L: Ledger>(
         scalars,
         units,
         floors,
+        by_scalars: passed_by_scalars(t, &mut steps),
+        by_runs: passed_by_runs(t, &mut steps),
     })
 }
 
 fn read_all(alloc: Global, t: &mut VecText) -> Result<Readings, OutOfMemory> {
     read_all_with::<Brand>(alloc, t, Blank::new(1))
+}
+
+/// How many scalars a text has, and how many code units of UTF-16.
+fn scalars_and_units(text: &str) -> (u64, u64) {
+    let mut scalars: u64 = 0;
+    let mut units: u64 = 0;
+    for scalar in text.chars() {
+        scalars = scalars.saturating_add(1);
+        units = units.saturating_add(scalar.len_utf16() as u64);
+    }
+    (scalars, units)
 }
 
 fn check_utf8(rt: &impl Abort, alloc: Global, text: &str) -> Result<(), OutOfMemory> {
@@ -135,6 +183,10 @@ fn check_utf8(rt: &impl Abort, alloc: Global, text: &str) -> Result<(), OutOfMem
         }
         assert_eq!(rt; *got, floor, "floor of byte {p} in {text:?}");
     }
+    let (scalars, units) = scalars_and_units(text);
+    let passed = (bytes.len() as u64, units, scalars);
+    assert_eq!(rt; got.by_scalars, passed, "scalars of {text:?}");
+    assert_eq!(rt; got.by_runs, passed, "runs of {text:?}");
     Ok(())
 }
 
@@ -152,6 +204,7 @@ fn bytes_read_as_the_scalars_that_they_encode(rt: HostRuntime) -> Result<(), Out
             "xxxxx",
             "xxxxxx",
             "xxxxxxx",
+            "xxxxxxxxxxxxxxxx",
             "ééééé€",
         ] {
             let text = format!(in rt.alloc(); "{pad}{scalar}z{scalar}")?;
@@ -174,6 +227,10 @@ fn check_utf16(
     assert_eq!(rt; got.scalars.as_str(), scalars);
     assert_eq!(rt; got.units.as_slice(), read, "units of {scalars:?}");
     assert_eq!(rt; got.floors.as_slice(), floors, "floors in {scalars:?}");
+    let (count, _units) = scalars_and_units(scalars);
+    let passed = (units.len() as u64, scalars.len() as u64, count);
+    assert_eq!(rt; got.by_scalars, passed, "scalars of {scalars:?}");
+    assert_eq!(rt; got.by_runs, passed, "runs of {scalars:?}");
     Ok(())
 }
 
@@ -286,5 +343,103 @@ fn a_text_of_its_own_words_is_all_of_them(rt: HostRuntime) -> Result<(), OutOfMe
             high: 3
         }
     );
+    Ok(())
+}
+
+/// The first piece of a text, and the place in the storage behind it.
+fn forward<L: Ledger>(
+    alloc: Global,
+    t: &mut VecText,
+    steps: &mut Steps<L>,
+) -> Result<(Vec<u8>, u64), OutOfMemory> {
+    let mut piece = [0; 64];
+    let (size, place) = fill_forward(t, 0, &mut piece, steps);
+    Ok((Vec::from_slice(alloc, &piece[..size])?, place))
+}
+
+/// The last piece of a text, and the place in the storage where it begins.
+fn backward<L: Ledger>(
+    alloc: Global,
+    t: &mut VecText,
+    steps: &mut Steps<L>,
+) -> Result<(Vec<u8>, u64), OutOfMemory> {
+    let high = t.high();
+    let mut piece = [0; 64];
+    let (size, place) = fill_backward(t, high, &mut piece, steps);
+    Ok((Vec::from_slice(alloc, &piece[..size])?, place))
+}
+
+/// The first piece of a text with the place behind it, and the last one with the place where it begins.
+type Pieces<'a> = ((&'a str, u64), (&'a str, u64));
+
+fn pieces_are_with<L: Ledger>(
+    rt: &impl Abort,
+    alloc: Global,
+    t: &mut VecText,
+    pieces: Pieces,
+    blank: Blank,
+) -> Result<(), OutOfMemory>
+    requires name { blank.name ≡ L.name }
+    requires parts { blank.parts ≡ L.parts }
+    requires one { blank.parts ≡ 1 }
+{
+    let mut steps = Steps::<L>::from_blank(blank);
+    let ((first, behind), (last, before)) = pieces;
+    let (bytes, place) = forward(alloc, t, &mut steps)?;
+    assert_eq!(rt; bytes.as_slice(), first.as_bytes(), "the first piece");
+    assert_eq!(rt; place, behind, "behind {first:?}");
+    let (bytes, place) = backward(alloc, t, &mut steps)?;
+    assert_eq!(rt; bytes.as_slice(), last.as_bytes(), "the last piece");
+    assert_eq!(rt; place, before, "before {last:?}");
+    Ok(())
+}
+
+fn pieces_are(
+    rt: &impl Abort,
+    alloc: Global,
+    t: &mut VecText,
+    pieces: Pieces,
+) -> Result<(), OutOfMemory> {
+    pieces_are_with::<Brand>(rt, alloc, t, pieces, Blank::new(1))
+}
+
+/// 63 letters of one byte, U+00E9 and one more: a piece has place for 64 bytes, and takes whole scalars alone.
+const LONG: &str = "aaaaabbbbbcccccdddddeeeeefffffggggghhhhhiiiiijjjjjkkkkklllllmmmén";
+
+#[test]
+fn pieces_are_of_whole_scalars_and_at_most_64_bytes(rt: HostRuntime) -> Result<(), OutOfMemory> {
+    let first = "aaaaabbbbbcccccdddddeeeeefffffggggghhhhhiiiiijjjjjkkkkklllllmmm";
+    let last = "aaabbbbbcccccdddddeeeeefffffggggghhhhhiiiiijjjjjkkkkklllllmmmén";
+    let alloc = rt.alloc();
+    let rows = [
+        ("", (("", 0), ("", 0))),
+        ("é😀", (("é😀", 6), ("é😀", 0))),
+        (LONG, ((first, 63), (last, 2))),
+    ];
+    for (text, pieces) in rows {
+        let mut bytes: Vec<u16> = Vec::new(alloc);
+        for byte in text.bytes() {
+            bytes.push(byte as u16)?;
+        }
+        let words = pack(alloc, bytes.as_slice(), 8, 8)?;
+        let mut t = text8(alloc, words, bytes.len() as u64)?.expect(&rt, "{text:?} is UTF-8");
+        pieces_are(&rt, alloc, &mut t, pieces)?;
+    }
+    let mut units: Vec<u16> = Vec::new(alloc);
+    for scalar in LONG.chars() {
+        units.push((scalar as u32 % 65536) as u16)?;
+    }
+    let lone = "\u{FFFD}a\u{FFFD}";
+    let rows: [(&[u16], Pieces); 4] = [
+        (&[], (("", 0), ("", 0))),
+        (&[0xE9, 0xD83D, 0xDE00], (("é😀", 3), ("é😀", 0))),
+        (&[0xDC00, 0x61, 0xD800], ((lone, 3), (lone, 0))),
+        (units.as_slice(), ((first, 63), (last, 2))),
+    ];
+    for (units, pieces) in rows {
+        let words = pack(alloc, units, 4, 16)?;
+        let mut t = text16(words, units.len() as u64).expect(&rt, "there is room");
+        pieces_are(&rt, alloc, &mut t, pieces)?;
+    }
     Ok(())
 }
