@@ -89,6 +89,20 @@ fn indices_are_rounded_in_utf8_storage(rt: HostRuntime) -> Result<(), OutOfMemor
     utf8_rows_are(
         &rt,
         alloc,
+        "€",
+        &[
+            (65540, Ok((65540, 5, 5, 65540))),
+            (131076, Ok((131076, 5, 5, 131076))),
+            (196612, Ok((196612, 196613, 196613, 196613))),
+            (65544, Ok((196613, 196613, 196613, 196613))),
+            (131080, out_of(2, 0, 1)),
+            (262144, out_of(4, 0, 3)),
+            (262156, out_of(4, 0, 3)),
+        ],
+    )?;
+    utf8_rows_are(
+        &rt,
+        alloc,
         "é😀",
         &[
             (131072, Ok((131076, 131077, 131077, 131077))),
@@ -129,21 +143,139 @@ fn indices_are_rounded_in_utf16_storage(rt: HostRuntime) -> Result<(), OutOfMemo
         ],
         "a pair",
     );
-    let mut lone = VecText::from_utf16(rt.alloc(), &[0xD800, 0x41, 0xDC00])?.expect(
-        &rt,
-        "three units",
-    );
+    // Lone halves at both ends, of either kind.
+    for units in [[0xD800, 0x41, 0xDC00], [0xDC00, 0x41, 0xD800]] {
+        let mut lone = VecText::from_utf16(rt.alloc(), &units)?.expect(&rt, "three units");
+        rows_are(
+            &rt,
+            &mut lone,
+            &[
+                (32776, Ok((32776, 9, 9, 32776))),
+                (49160, Ok((49160, 9, 9, 9))),
+                (196612, Ok((65545, 65545, 65545, 65545))),
+                (458756, Ok((196617, 196617, 196617, 196617))),
+                (524292, out_of(8, 0, 7)),
+            ],
+            "lone halves",
+        );
+    }
+    // "aé€😀": a scalar of each length in UTF-8, the last in two words
+    let units = [0x61, 0xE9, 0x20AC, 0xD83D, 0xDE00];
+    let mut lengths = VecText::from_utf16(rt.alloc(), &units)?.expect(&rt, "five units");
     rows_are(
         &rt,
-        &mut lone,
+        &mut lengths,
         &[
-            (32776, Ok((32776, 9, 9, 32776))),
-            (49160, Ok((49160, 9, 9, 9))),
-            (196612, Ok((65545, 65545, 65545, 65545))),
-            (458756, Ok((196617, 196617, 196617, 196617))),
-            (524292, out_of(8, 0, 7)),
+            (65536, Ok((65544, 65545, 65545, 65545))),
+            (65548, Ok((65544, 65545, 65545, 65545))),
+            (98312, Ok((98312, 65545, 65545, 65545))),
+            (131076, Ok((81928, 65545, 65545, 81928))),
+            (327684, Ok((163848, 131081, 131081, 163848))),
+            (393220, Ok((196617, 196617, 196617, 196617))),
+            (262152, Ok((262152, 196617, 262152, 196617))),
+            (589828, Ok((245768, 196617, 196617, 245768))),
+            (655364, Ok((327689, 327689, 327689, 327689))),
+            (720900, out_of(11, 0, 10)),
+            (393216, out_of(6, 0, 5)),
+            (393224, out_of(6, 0, 5)),
+            (393228, out_of(6, 0, 5)),
         ],
-        "lone halves",
+        "each length",
     );
+    let mut none = VecText::from_utf16(rt.alloc(), &[])?.expect(&rt, "no unit");
+    rows_are(
+        &rt,
+        &mut none,
+        &[
+            (8, Ok((8, 9, 9, 9))),
+            (4, Ok((9, 9, 9, 9))),
+            (65544, out_of(1, 0, 0)),
+            (65540, out_of(1, 0, 0)),
+        ],
+        "no unit",
+    );
+    Ok(())
+}
+
+/// The word of an index: its position, its transcoded offset, and its marks in the lowest bits.
+fn word_of(position: u64, past: u64, marks: u64) -> u64 {
+    position
+        .wrapping_mul(65536)
+        .wrapping_add(past.wrapping_mul(16384))
+        .wrapping_add(marks)
+}
+
+/// `k` letters, U+1F600 and a letter in UTF-8 storage: each of the scalar's places, in either unit.
+#[test]
+fn a_scalar_may_cross_words_at_each_byte(rt: HostRuntime) -> Result<(), OutOfMemory> {
+    let texts = [
+        "😀b",
+        "a😀b",
+        "aa😀b",
+        "aaa😀b",
+        "aaaa😀b",
+        "aaaaa😀b",
+        "aaaaaa😀b",
+        "aaaaaaa😀b",
+    ];
+    let mut k: u64 = 0;
+    'texts: for text in texts {
+        let mut t = VecText::from_utf8(rt.alloc(), text)?.expect(&rt, "a few bytes");
+        let here = word_of(k, 0, 5);
+        let second = word_of(k, 1, 4);
+        let behind = word_of(k.saturating_add(4), 0, 5);
+        let inside = word_of(k.saturating_add(3), 0, 4);
+        let past = k.saturating_add(4);
+        rows_are(
+            &rt,
+            &mut t,
+            &[
+                (inside, Ok((inside, here, here, inside))),
+                (
+                    word_of(k.saturating_add(1), 0, 8),
+                    Ok((second, here, second, here)),
+                ),
+                (
+                    word_of(k.saturating_add(2), 0, 8),
+                    Ok((behind, behind, behind, behind)),
+                ),
+                (word_of(past, 0, 8), out_of(past, 0, k.saturating_add(3))),
+            ],
+            text,
+        );
+        k = k.saturating_add(1);
+    }
+    Ok(())
+}
+
+/// `k` letters, the halves of U+1F600 and a letter in UTF-16 storage: the second half, and the third of its bytes.
+#[test]
+fn a_pair_may_cross_words_at_each_unit(rt: HostRuntime) -> Result<(), OutOfMemory> {
+    let texts: [&[u16]; 4] = [
+        &[0xD83D, 0xDE00, 0x62],
+        &[0x61, 0xD83D, 0xDE00, 0x62],
+        &[0x61, 0x61, 0xD83D, 0xDE00, 0x62],
+        &[0x61, 0x61, 0x61, 0xD83D, 0xDE00, 0x62],
+    ];
+    let mut k: u64 = 0;
+    'texts: for units in texts {
+        let mut t = VecText::from_utf16(rt.alloc(), units)?.expect(&rt, "a few units");
+        let here = word_of(k, 0, 9);
+        let half = word_of(k.saturating_add(1), 0, 8);
+        let third = word_of(k, 2, 8);
+        rows_are(
+            &rt,
+            &mut t,
+            &[
+                (half, Ok((half, here, half, here))),
+                (
+                    word_of(k.saturating_add(2), 0, 4),
+                    Ok((third, here, here, third)),
+                ),
+            ],
+            "over a word's edge",
+        );
+        k = k.saturating_add(1);
+    }
     Ok(())
 }
