@@ -208,42 +208,26 @@ fn word_of(position: u64, past: u64, marks: u64) -> u64 {
 /// `k` letters, U+1F600 and a letter in UTF-8 storage: each of the scalar's places, in either unit.
 #[test]
 fn a_scalar_may_cross_words_at_each_byte(rt: HostRuntime) -> Result<(), OutOfMemory> {
-    let texts = [
-        "😀b",
-        "a😀b",
-        "aa😀b",
-        "aaa😀b",
-        "aaaa😀b",
-        "aaaaa😀b",
-        "aaaaaa😀b",
-        "aaaaaaa😀b",
-    ];
-    let mut k: u64 = 0;
-    'texts: for text in texts {
-        let mut t = VecText::from_utf8(rt.alloc(), text)?.expect(&rt, "a few bytes");
+    for letters in 0..8 {
+        let text = &"aaaaaaa😀b"[7 - letters..];
+        let k = letters as u64;
+        let mut t = VecText::from_utf8(rt.alloc(), text)?.expect(&rt, "twelve bytes");
         let here = word_of(k, 0, 5);
         let second = word_of(k, 1, 4);
-        let behind = word_of(k.saturating_add(4), 0, 5);
-        let inside = word_of(k.saturating_add(3), 0, 4);
-        let past = k.saturating_add(4);
+        let behind = word_of(k + 4, 0, 5);
+        let inside = word_of(k + 3, 0, 4);
+        let past = k + 4;
         rows_are(
             &rt,
             &mut t,
             &[
                 (inside, Ok((inside, here, here, inside))),
-                (
-                    word_of(k.saturating_add(1), 0, 8),
-                    Ok((second, here, second, here)),
-                ),
-                (
-                    word_of(k.saturating_add(2), 0, 8),
-                    Ok((behind, behind, behind, behind)),
-                ),
-                (word_of(past, 0, 8), out_of(past, 0, k.saturating_add(3))),
+                (word_of(k + 1, 0, 8), Ok((second, here, second, here))),
+                (word_of(k + 2, 0, 8), Ok((behind, behind, behind, behind))),
+                (word_of(past, 0, 8), out_of(past, 0, k + 3)),
             ],
             text,
         );
-        k = k.saturating_add(1);
     }
     Ok(())
 }
@@ -251,31 +235,23 @@ fn a_scalar_may_cross_words_at_each_byte(rt: HostRuntime) -> Result<(), OutOfMem
 /// `k` letters, the halves of U+1F600 and a letter in UTF-16 storage: the second half, and the third of its bytes.
 #[test]
 fn a_pair_may_cross_words_at_each_unit(rt: HostRuntime) -> Result<(), OutOfMemory> {
-    let texts: [&[u16]; 4] = [
-        &[0xD83D, 0xDE00, 0x62],
-        &[0x61, 0xD83D, 0xDE00, 0x62],
-        &[0x61, 0x61, 0xD83D, 0xDE00, 0x62],
-        &[0x61, 0x61, 0x61, 0xD83D, 0xDE00, 0x62],
-    ];
-    let mut k: u64 = 0;
-    'texts: for units in texts {
-        let mut t = VecText::from_utf16(rt.alloc(), units)?.expect(&rt, "a few units");
+    let units = [0x61, 0x61, 0x61, 0xD83D, 0xDE00, 0x62];
+    for letters in 0..4 {
+        let k = letters as u64;
+        let held = &units[3 - letters..];
+        let mut t = VecText::from_utf16(rt.alloc(), held)?.expect(&rt, "six units");
         let here = word_of(k, 0, 9);
-        let half = word_of(k.saturating_add(1), 0, 8);
+        let half = word_of(k + 1, 0, 8);
         let third = word_of(k, 2, 8);
         rows_are(
             &rt,
             &mut t,
             &[
                 (half, Ok((half, here, half, here))),
-                (
-                    word_of(k.saturating_add(2), 0, 4),
-                    Ok((third, here, here, third)),
-                ),
+                (word_of(k + 2, 0, 4), Ok((third, here, here, third))),
             ],
             "over a word's edge",
         );
-        k = k.saturating_add(1);
     }
     Ok(())
 }

@@ -245,6 +245,26 @@ fn every_call_in_utf8_storage(rt: HostRuntime) -> Result<(), OutOfMemory> {
             (0x80, 655365),
         ],
     );
+    let mut t = VecText::from_utf8(alloc, "é😀")?.expect(&rt, "six bytes");
+    rows_hold(
+        &rt,
+        &mut t,
+        View::Scalars,
+        &[(0xE9, 131077), (0x1F600, 393221)],
+    );
+    rows_hold(
+        &rt,
+        &mut t,
+        UTF8,
+        &[
+            (0xC3, 65540),
+            (0xA9, 131077),
+            (0xF0, 196612),
+            (0x9F, 262148),
+            (0x98, 327684),
+            (0x80, 393221),
+        ],
+    );
     let mut none = VecText::from_utf8(alloc, "")?.expect(&rt, "no byte");
     rows_hold(&rt, &mut none, View::Scalars, &[]);
     rows_hold(&rt, &mut none, UTF8, &[]);
@@ -288,13 +308,56 @@ fn every_call_in_utf16_storage(rt: HostRuntime) -> Result<(), OutOfMemory> {
             (0xBD, 327689),
         ],
     );
+    // a pair alone
+    let mut t = VecText::from_utf16(alloc, &[0xD83D, 0xDE00])?.expect(&rt, "two units");
+    rows_hold(&rt, &mut t, View::Scalars, &[(0x1F600, 131081)]);
+    rows_hold(
+        &rt,
+        &mut t,
+        UTF8,
+        &[(0xF0, 16392), (0x9F, 32776), (0x98, 49160), (0x80, 131081)],
+    );
+    // a lone first half, "é€", a lone second half
+    let mut t = VecText::from_utf16(alloc, &[0xD800, 0xE9, 0x20AC, 0xDC00])?.expect(
+        &rt,
+        "four units",
+    );
+    rows_hold(
+        &rt,
+        &mut t,
+        View::Scalars,
+        &[
+            (0xFFFD, 65545),
+            (0xE9, 131081),
+            (0x20AC, 196617),
+            (0xFFFD, 262153),
+        ],
+    );
+    rows_hold(
+        &rt,
+        &mut t,
+        UTF8,
+        &[
+            (0xEF, 16392),
+            (0xBF, 32776),
+            (0xBD, 65545),
+            (0xC3, 81928),
+            (0xA9, 131081),
+            (0xE2, 147464),
+            (0x82, 163848),
+            (0xAC, 196617),
+            (0xEF, 213000),
+            (0xBF, 229384),
+            (0xBD, 262153),
+        ],
+    );
     let mut none = VecText::from_utf16(alloc, &[])?.expect(&rt, "no unit");
     rows_hold(&rt, &mut none, View::Scalars, &[]);
     rows_hold(&rt, &mut none, UTF8, &[]);
     Ok(())
 }
 
-/// `k` letters, U+1F600 and a letter: the scalar of four bytes begins at byte `k` of its word.
+/// `k` letters, U+1F600 and a letter: the wide scalar begins at code unit `k` of its word.
 fn crosses_with<L: Ledger>(rt: &impl Abort, t: &mut VecText, k: u32, blank: Blank)
     requires name { blank.name ≡ L.name }
     requires parts { blank.parts ≡ L.parts }
@@ -347,6 +410,16 @@ fn a_scalar_may_cross_words_at_each_byte(rt: HostRuntime) -> Result<(), OutOfMem
     for k in 0..8 {
         let text = &"aaaaaaa😀b"[7 - k..];
         let mut t = VecText::from_utf8(alloc, text)?.expect(&rt, "twelve bytes");
+        crosses(&rt, &mut t, k as u32);
+    }
+    Ok(())
+}
+
+#[test]
+fn a_pair_may_cross_words_at_each_unit(rt: HostRuntime) -> Result<(), OutOfMemory> {
+    let units = [0x61, 0x61, 0x61, 0xD83D, 0xDE00, 0x62];
+    for k in 0..4 {
+        let mut t = VecText::from_utf16(rt.alloc(), &units[3 - k..])?.expect(&rt, "six units");
         crosses(&rt, &mut t, k as u32);
     }
     Ok(())

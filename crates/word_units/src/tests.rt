@@ -417,12 +417,7 @@ fn pieces_are_of_whole_scalars_and_at_most_64_bytes(rt: HostRuntime) -> Result<(
         (LONG, ((first, 63), (last, 2))),
     ];
     for (text, pieces) in rows {
-        let mut bytes: Vec<u16> = Vec::new(alloc);
-        for byte in text.bytes() {
-            bytes.push(byte as u16)?;
-        }
-        let words = pack(alloc, bytes.as_slice(), 8, 8)?;
-        let mut t = text8(alloc, words, bytes.len() as u64)?.expect(&rt, "{text:?} is UTF-8");
+        let mut t = VecText::from_utf8(alloc, text)?.expect(&rt, "{text:?} is short");
         pieces_are(&rt, alloc, &mut t, pieces)?;
     }
     let mut units: Vec<u16> = Vec::new(alloc);
@@ -437,8 +432,7 @@ fn pieces_are_of_whole_scalars_and_at_most_64_bytes(rt: HostRuntime) -> Result<(
         (units.as_slice(), ((first, 63), (last, 2))),
     ];
     for (units, pieces) in rows {
-        let words = pack(alloc, units, 4, 16)?;
-        let mut t = text16(words, units.len() as u64).expect(&rt, "there is room");
+        let mut t = VecText::from_utf16(alloc, units)?.expect(&rt, "{pieces:?} is short");
         pieces_are(&rt, alloc, &mut t, pieces)?;
     }
     Ok(())
