@@ -4,7 +4,7 @@ use Rattle.std.proofs.lemmas.Bool.{cases_lt}
 use Rattle.std.proofs.lemmas.List.{reverse-append, length-map, drop_all}
 use Rattle.unicode_segmentation.specs.Grapheme.{is_grapheme_break}
 use Rattle.unicode_segmentation.specs.Segments.{prepend, cut}
-use Rattle.text_spec.specs.Offsets.{start, down}
+use Rattle.text_spec.specs.Offsets.{start}
 use Rattle.text_spec.proofs.Walk.{start-zero, start-suc, start-mono, down-next, down-unique, down-end}
 use Rattle.text_spec.proofs.Downward.{start-down}
 use Rattle.char_view.specs.Characters.{is_character_boundary, characters, character_sizes, character_count, character_start, character_of, HasNoBoundary}

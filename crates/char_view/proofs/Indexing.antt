@@ -1,5 +1,5 @@
 -- Indices of Characters as words, and indices rounded down to scalars.
-use Rattle.std.proofs.Common.{◌≡◌, refl, sym, ap, ◌∙◌, ℕ, ◌+◌, ◌-◌, ◌<◌, ◌≤◌, ◌^◌, ⊎_elim, true, nat_le, List, length, Option, Some, arith}
+use Rattle.std.proofs.Common.{◌≡◌, refl, sym, ap, ◌∙◌, ℕ, ◌+◌, ◌-◌, ◌<◌, ◌≤◌, ◌^◌, ⊎_elim, true, nat_le, List, length, Some, arith}
 use Rattle.std.proofs.lemmas.Bool.{cases_lt, cond-true, cond-false, le-leb, lt-leb}
 use Rattle.std.specs.Option.{option_map}
 use Rattle.text_spec.specs.declared.encoding.Encoding.{Encoding}
@@ -38,7 +38,7 @@ pub offset_known : (e : Encoding) (b : List ℕ) (first end i index p : ℕ) →
 offset_known e b first end i index p is number =
     ap (option_map (λ place. offset_at e b first end (place.0))) is ∙ ap (λ k. Some (character_of (part b first end) (k - first))) (sym number)
 
-kept-few : (n : ℕ) → kept_stride n < 64
+pub kept-few : (n : ℕ) → kept_stride n < 64
 kept-few n =
     ⊎_elim (λ (h : n < 64). omega (arith, cond-true (nat_le n 63) n 0 (le-leb n 63 (omega (arith, h))), h))
     (λ (h : 64 ≤ n). omega (arith, cond-false (nat_le n 63) n 0 (lt-leb n 63 (omega (arith, h))))) (cases_lt n 64)

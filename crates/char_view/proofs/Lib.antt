@@ -3,3 +3,4 @@ pub mod Parts
 pub mod Chunks
 pub mod Stepping
 pub mod Indexing
+pub mod True

@@ -1,6 +1,6 @@
 -- The text of a storage, its UTF-8, and where scalars lie in both.
-use Rattle.std.proofs.Common.{◌≡◌, refl, sym, ap, subst, ◌∙◌, ℕ, zero, suc, ◌+◌, ◌-◌, ◌*◌, ◌<◌, ◌≤◌, ◌^◌, ⊎_elim, inl, inr, Bool, true, List, [], ◌∷◌, ◌++◌, length, take, drop, get_or, arith, Some}
-use Rattle.std.proofs.lemmas.Bool.{cases_lt, and_parts, lt-ltb, le-ltb, cond-true, cond-false}
+use Rattle.std.proofs.Common.{◌≡◌, refl, sym, ap, subst, ◌∙◌, ℕ, zero, suc, ◌+◌, ◌-◌, ◌*◌, ◌<◌, ◌≤◌, ◌^◌, ⊎_elim, inl, inr, true, List, [], ◌∷◌, ◌++◌, length, take, drop, get_or, arith, Some}
+use Rattle.std.proofs.lemmas.Bool.{cases_lt, and_parts, lt-ltb, cond-true}
 use Rattle.std.proofs.lemmas.List.{take-append-drop, length-take-le, length-drop, get_or-take, get_or-drop}
 use Rattle.std.proofs.lemmas.Str.{chars-encodes, encodes-append, len_utf8_bounds}
 use Rattle.std.proofs.Math.Seq.{take-append_seam, drop-append_seam}
@@ -15,12 +15,11 @@ use Rattle.unicode_segmentation.specs.Segments.{breaks_at}
 use Rattle.text_spec.specs.declared.encoding.Encoding.{Encoding}
 use Rattle.text_spec.specs.declared.encoding.Encoding.TheVariants.{Utf8, Utf16}
 use Rattle.text_spec.specs.Offsets.{len_utf16, start, down}
-use Rattle.text_spec.specs.Packed.{denoted_text, units_of, IsPair}
-use Rattle.text_spec.specs.Text.{utf8}
+use Rattle.text_spec.specs.Packed.{denoted_text, units_of}
 use Rattle.text_spec.specs.Views.{width_in, size_in, part}
 use Rattle.text_spec.proofs.Bytes.{length-utf8, covered, byte-after, lead-boundary, floor-end, decoded}
-use Rattle.text_spec.proofs.Denoting.{utf8_words, utf16_words, denoted_size}
-use Rattle.text_spec.proofs.Downward.{down-length, start-down}
+use Rattle.text_spec.proofs.Denoting.{utf8_words, utf16_words}
+use Rattle.text_spec.proofs.Downward.{down-length}
 use Rattle.text_spec.proofs.Lengths.{start-utf8}
 use Rattle.text_spec.proofs.Repaired.{Stands16, read16, pair_cases}
 use Rattle.text_spec.proofs.Walk.{start-mono, start-le, start-strict, start-suc, down-start}

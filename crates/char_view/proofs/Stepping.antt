@@ -1,5 +1,5 @@
 -- A walk from Character to Character: where it stands, and what it has passed.
-use Rattle.std.proofs.Common.{◌≡◌, refl, sym, ap, subst, ◌∙◌, ℕ, zero, suc, ◌+◌, ◌-◌, ◌<◌, ◌≤◌, ◌^◌, ⊎_elim, true, false, List, length, arith}
+use Rattle.std.proofs.Common.{◌≡◌, sym, ap, subst, ◌∙◌, ℕ, suc, ◌+◌, ◌<◌, ◌≤◌, ◌^◌, ⊎_elim, true, List, length, arith}
 use Rattle.std.proofs.lemmas.Bool.{cases_lt}
 use Rattle.std.specs.Char.{len_utf8}
 use Rattle.text_spec.specs.declared.encoding.Encoding.{Encoding}
@@ -8,7 +8,7 @@ use Rattle.text_spec.specs.Views.{width_in, part}
 use Rattle.text_spec.proofs.Walk.{start-zero, start-strict, start-mono}
 use Rattle.text_spec.proofs.Widths.{width_some}
 use Rattle.char_view.specs.Answers.{count_of, character_position, offset_at}
-use Rattle.char_view.specs.Characters.{character_count, character_sizes, character_start, character_of}
+use Rattle.char_view.specs.Characters.{character_sizes, character_start}
 use Rattle.char_view.specs.Places.{IsText, IsPlace, own_bytes, own_number}
 use Rattle.char_view.specs.Walks.{breaks, HasNone}
 use Rattle.char_view.proofs.Cuts.{next_character, start-count, start-more, start-past, start-within, start-ordered, number-few, character_of-inside, character_of-end}

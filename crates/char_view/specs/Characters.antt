@@ -1,6 +1,6 @@
 -- The Characters of a text: its extended grapheme clusters (UAX #29, section 3.1), over lists of scalars alone.
 -- The rules are those of `unicode_segmentation`, word for word; no storage, offset in code units or piece is named here.
-use Rattle.std.specs.Prelude.{◌≡◌, ℕ, ◌<◌, ◌≤◌, Bool, true, false, List, [], length, map, reverse, take, drop}
+use Rattle.std.specs.Prelude.{◌≡◌, ℕ, ◌<◌, Bool, true, false, List, [], length, map, reverse, take, drop}
 use Rattle.unicode_segmentation.specs.Grapheme.{is_grapheme_break}
 use Rattle.unicode_segmentation.specs.Segments.{cut}
 use Rattle.text_spec.specs.Offsets.{start, down}

@@ -1,5 +1,5 @@
 -- Places of a text at scalar boundaries, as two numbers: bytes of UTF-8 from the text's start, and code units of the storage.
-use Rattle.std.specs.Prelude.{◌≡◌, ℕ, ◌+◌, ◌-◌, ◌<◌, ◌≤◌, ◌^◌, true, List, length, IsUtf8}
+use Rattle.std.specs.Prelude.{◌≡◌, ℕ, ◌-◌, ◌<◌, ◌≤◌, ◌^◌, true, List, length, IsUtf8}
 use Rattle.std.specs.Char.{len_utf8}
 use Rattle.std.specs.Str.{all_scalars, IsCharBoundary}
 use Rattle.text_spec.specs.declared.encoding.Encoding.{Encoding}

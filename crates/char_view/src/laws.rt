@@ -1,9 +1,15 @@
 //! What readers look for in the definition of Characters, each law a function with an empty body whose contract is the law.
-ghost use Rattle.std.specs.Prelude.{◌≡◌, ◌≤◌, ◌<◌, ◌+◌, ◌↔◌, ℕ, List, length, map, true};
+ghost use Rattle.std.specs.Prelude.{◌≡◌, ◌≢◌, ◌≤◌, ◌<◌, ◌+◌, ℕ, List, length, map, true};
 ghost use Rattle.std.specs.Str.{all_scalars};
+ghost use Rattle.text_spec.specs.declared.encoding.Encoding.{Encoding};
 ghost use Rattle.text_spec.specs.Text.{utf8};
+ghost use Rattle.index_words.specs.Fields.{position_of, stride_of};
 ghost use Rattle.unicode_segmentation.specs.Grapheme.{graphemes};
 ghost use Rattle.char_view.specs.Characters.{characters, character_count, character_start, character_of, is_character_boundary};
+ghost use Rattle.char_view.specs.Answers.{character_index, offset_at, IsTrueAt};
+ghost use Rattle.char_view.specs.Places.{IsText};
+
+use index_words::laws::fields_are_read_back;
 
 /// The UTF-8 of the Characters of a text is what `unicode_segmentation` gives as the extended grapheme clusters of its UTF-8.
 pub fn characters_are_graphemes()
@@ -22,3 +28,13 @@ pub fn characters_end_at_boundaries()
     ensures boundary { (text : List ℕ) (n : ℕ) → is_character_boundary text (character_start text n) ≡ true }
     ensures each { (text : List ℕ) (k : ℕ) → k ≤ length text → is_character_boundary text k ≡ true → character_start text (character_of text k) ≡ k }
 {}
+
+/// The index of a Character is true of its text wherever it keeps a stride, so that `after_true` takes what the calls answer.
+pub fn kept_strides_are_true()
+    ensures { (storage : Encoding) (whole : List ℕ) (first end n : ℕ) → IsText storage whole first end
+        → stride_of (character_index storage whole first end n) ≢ 0
+        → IsTrueAt storage whole first end (character_index storage whole first end n)
+        (offset_at storage whole first end (position_of (character_index storage whole first end n))) }
+{
+    fields_are_read_back();
+}

@@ -3,6 +3,7 @@
 ghost use Rattle.std.specs.Prelude.{◌≡◌};
 
 use crate::characters;
+use crate::laws::kept_strides_are_true;
 use index_words::Index;
 use std::alloc::Global;
 use std::marker::Brand;
@@ -10,7 +11,7 @@ use std::process::Abort;
 use std::sync::ledger::{Blank, Ledger};
 use text_spec::{Encoding, OutOfMemory};
 use unicode_segmentation::UnicodeSegmentation;
-use word_units::{OutOfBounds, Steps, VecText};
+use word_units::{OutOfBounds, Steps, Text, VecText};
 
 /// Where the Characters of a text begin and the last one ends, in bytes and in units: the plain program.
 fn plain_bounds(alloc: Global, text: &str) -> Result<(Vec<u64>, Vec<u64>), OutOfMemory> {
@@ -305,6 +306,47 @@ fn rows_worked_out_by_hand(rt: HostRuntime) -> Result<(), OutOfMemory> {
             "{text} is short",
         );
         assert_eq!(&rt; row(&mut utf16), in16, "{text}");
+    }
+    Ok(())
+}
+
+/// The words of the index behind the first Character: by an addition, where the first keeps a stride, and by reading.
+fn behind_first<T: Text, L: Ledger>(t: &mut T, blank: Blank) -> (Option<u64>, u64)
+    requires name { blank.name ≡ L.name }
+    requires parts { blank.parts ≡ L.parts }
+    requires one { blank.parts ≡ 1 }
+{
+    let mut steps = Steps::<L>::from_blank(blank);
+    let start = characters::start(t, &mut steps);
+    let read = word_of(characters::after(t, start, &mut steps));
+    let _count = t.count();
+    let _low = t.low();
+    let _high = t.high();
+    if start.stride() == 0 {
+        return (None, read);
+    }
+    kept_strides_are_true();
+    (Some(characters::after_true(t, start).bits()), read)
+}
+
+fn behind(t: &mut VecText) -> (Option<u64>, u64) {
+    behind_first::<VecText, Brand>(t, Blank::new(1))
+}
+
+#[test]
+fn a_kept_stride_leads_to_the_next_character(rt: HostRuntime) -> Result<(), OutOfMemory> {
+    let alloc = rt.alloc();
+    // A text, and the answers in UTF-8 and in UTF-16 storage: by addition the index keeps no stride.
+    for (text, in8, in16) in [
+        ("🇩🇪🇫🇷", (Some(524295), 526343), (Some(262155), 263179)),
+        ("e\u{301}x", (Some(196615), 196871), (Some(131083), 131339)),
+        ("", (None, 1), (None, 1)),
+    ] {
+        let mut utf8 = VecText::from_utf8(alloc, text)?.expect(&rt, "it is short");
+        assert_eq!(&rt; behind(&mut utf8), in8, "{text}");
+        let units = text.encode_utf16().collect::<Vec<u16>>(alloc)?;
+        let mut utf16 = VecText::from_utf16(alloc, units.as_slice())?.expect(&rt, "it is short");
+        assert_eq!(&rt; behind(&mut utf16), in16, "{text}");
     }
     Ok(())
 }

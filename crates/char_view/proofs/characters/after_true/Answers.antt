@@ -1,4 +1,4 @@
-use Rattle.std.proofs.Common.{◌≡◌, ◌∙◌, ◌+◌, ◌<◌, ◌^◌, arith}
+use Rattle.std.proofs.Common.{◌≡◌, ◌+◌, ◌<◌, ◌^◌, arith}
 use Rattle.text_spec.specs.Views.{width_in}
 use Rattle.text_spec.proofs.Walk.{start-le}
 use Rattle.index_words.specs.Fields.{position_of}

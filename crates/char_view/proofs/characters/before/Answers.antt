@@ -1,4 +1,4 @@
-use Rattle.std.proofs.Common.{◌≡◌, ap, subst, ◌∙◌, ◌+◌, ◌-◌, ◌<◌, arith}
+use Rattle.std.proofs.Common.{◌≡◌, ap, ◌∙◌, ◌+◌, ◌-◌, ◌<◌, arith}
 use Rattle.char_view.specs.Answers.{character_position}
 use Rattle.char_view.proofs.Indexing.{index_is}
 use Rattle.char_view.proofs.characters.before.Goals as goal

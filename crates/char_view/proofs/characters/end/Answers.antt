@@ -1,4 +1,4 @@
-use Rattle.std.proofs.Common.{◌≡◌, sym, ◌∙◌, ◌+◌, arith}
+use Rattle.std.proofs.Common.{sym, ◌∙◌, ◌+◌, arith}
 use Rattle.text_spec.specs.Views.{width_in}
 use Rattle.text_spec.proofs.Walk.{start-le}
 use Rattle.char_view.specs.Answers.{count_of}

@@ -1,6 +1,6 @@
-use Rattle.std.proofs.Common.{◌≡◌, refl, sym, ap, subst, ◌∙◌, ℕ, suc, ◌+◌, ◌<◌, Bool, true, false, cond, IsTrue, Err, Some, length, take, arith, ◌⊎◌, ⊎_elim}
+use Rattle.std.proofs.Common.{◌≡◌, refl, sym, ap, subst, ◌∙◌, ℕ, suc, ◌+◌, ◌<◌, Bool, true, false, cond, IsTrue, Err, Some, length, arith, ⊎_elim}
 use Rattle.std.specs.Option.{unwrap_or}
-use Rattle.unicode_segmentation.specs.Cursor.{IsChunkOf, IsCursorOn, KeepsPlace, cursor_awaits, cursor_has_decided, cursor_offset}
+use Rattle.unicode_segmentation.specs.Cursor.{IsChunkOf, KeepsPlace, cursor_awaits, cursor_has_decided}
 use Rattle.unicode_segmentation.specs.declared.grapheme.cursor.GraphemeCursor.{GraphemeCursor}
 use Rattle.char_view.specs.Places.{IsPlace, own_bytes}
 use Rattle.char_view.specs.Walks.{IsPieceOf}

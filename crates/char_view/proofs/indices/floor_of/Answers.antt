@@ -1,5 +1,5 @@
 use Rattle.std.proofs.Common.{◌≡◌, ap, subst, ◌∙◌, ℕ, ◌<◌, ◌≤◌, ◌^◌, arith, length}
-use Rattle.text_spec.specs.Offsets.{start, down}
+use Rattle.text_spec.specs.Offsets.{down}
 use Rattle.text_spec.specs.Rounding as rounding
 use Rattle.text_spec.specs.Views.{width_in, size_in}
 use Rattle.text_spec.proofs.Walk.{start-le}

@@ -1,4 +1,4 @@
-use Rattle.std.proofs.Common.{◌≡◌, subst, ◌∙◌, ◌+◌, arith}
+use Rattle.std.proofs.Common.{◌≡◌, subst, ◌∙◌, ◌+◌}
 use Rattle.text_spec.specs.Offsets.{down}
 use Rattle.text_spec.specs.Views.{width_in}
 use Rattle.char_view.specs.Places.{IsPlace}

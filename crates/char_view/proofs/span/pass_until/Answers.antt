@@ -1,4 +1,4 @@
-use Rattle.std.proofs.Common.{◌≡◌, ◌<◌, ◌≤◌, ⊎_elim, arith}
+use Rattle.std.proofs.Common.{◌<◌, ◌≤◌, ⊎_elim, arith}
 use Rattle.std.proofs.lemmas.Bool.{cases_lt, eqb-false, iff_false}
 use Rattle.char_view.proofs.Stepping.{last_number}
 use Rattle.char_view.proofs.span.pass_until.Goals as goal

@@ -1,4 +1,4 @@
-use Rattle.std.proofs.Common.{◌≡◌, sym, ap, subst, ◌∙◌, ◌-◌, arith}
+use Rattle.std.proofs.Common.{◌≡◌, sym, ap, subst, ◌∙◌, arith}
 use Rattle.unicode_segmentation.specs.Cursor.{IsCursorOn}
 use Rattle.text_spec.specs.Offsets.{start, down}
 use Rattle.text_spec.specs.Views.{width_in, part}

@@ -1,4 +1,4 @@
-use Rattle.std.proofs.Common.{◌≡◌, ◌+◌, ◌-◌, ◌<◌, ◌≤◌, true, false, length}
+use Rattle.std.proofs.Common.{◌≡◌, ◌+◌, ◌-◌, ◌<◌, ◌≤◌, true, false}
 use Rattle.unicode_segmentation.specs.Cursor.{IsCursorOn, cursor_offset, cursor_is_extended, cursor_is_resuming}
 use Rattle.char_view.specs.Places.{IsPlace, own_bytes}
 use Rattle.char_view.specs.Walks.{IsPieceOf, HasNone}

@@ -1,4 +1,4 @@
-use Rattle.std.proofs.Common.{arith, ◌+◌}
+use Rattle.std.proofs.Common.{arith}
 use Rattle.char_view.proofs.Parts.{inside_bytes}
 use Rattle.char_view.proofs.Stepping.{pass_one, few_passed}
 use Rattle.char_view.proofs.walk.pass.Goals as goal

@@ -1,4 +1,4 @@
-use Rattle.std.proofs.Common.{◌≡◌, sym, subst, ◌∙◌, true}
+use Rattle.std.proofs.Common.{sym, subst, ◌∙◌, true}
 use Rattle.unicode_segmentation.specs.Cursor.{IsChunkOf}
 use Rattle.unicode_segmentation.proofs.CursorLemmas.{breaks_at-end}
 use Rattle.char_view.specs.Places.{own_bytes}
