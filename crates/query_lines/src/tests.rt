@@ -108,49 +108,69 @@ fn repeated(
 #[test]
 fn lines_are_read_by_the_rows_of_the_table(rt: HostRuntime) -> Result<(), Fail> {
     for (line, want) in [
-        ("{\"load\":\"a\",\"text\":\"abc\"}", "load a abc"),
-        (" { \"text\" : \"é😀\" , \"load\" : \"ü\" } ", "load ü é😀"),
+        (r#"{"load":"a","text":"abc"}"#, "load a abc"),
+        (r#" { "text" : "é😀" , "load" : "ü" } "#, "load ü é😀"),
         (
-            "{\"load\":\"a\",\"text\":\"\\u0041\\ud83d\\ude00\\/\\\"\"}",
-            "load a A😀/\"",
+            r#"{"load":"a","text":"\u0041\ud83d\ude00\/\""}"#,
+            r#"load a A😀/""#,
         ),
         ("{\"load\":\"a\",\"text\":\"\u{7F}\"}", "load a \u{7F}"),
-        ("{\"load\":\"a\",\"text\":\"x\",\"text\":\"y\"}", "load a y"),
-        ("{\"load\":1,\"text\":\"x\",\"load\":\"b\"}", "load b x"),
-        ("{\"on\":\"a\",\"do\":[]}", "on a"),
+        (r#"{"load":"a","text":"x","text":"y"}"#, "load a y"),
+        (r#"{"load":1,"text":"x","load":"b"}"#, "load b x"),
         (
-            "{\"do\":[{\"at\":0},{\"slice\":[1,20]},{\"text\":true}],\"on\":\"a\"}",
+            r#"{"load":"a","text":"x","text":"y","load":"b"}"#,
+            "load b y",
+        ),
+        (
+            r#"{"on":"a","do":7,"do":[{"at":1.5,"at":2},{"at":3,"at":4}],"on":"b"}"#,
+            "on b at 2 at 4",
+        ),
+        (
+            r#"{"on":"a","do":[{"place":{"utf8":1,"utf8":2}},{"place":5,"place":{"utf8":6}}]}"#,
+            "on a place 2 place 6",
+        ),
+        (
+            r#"{"on":"a","do":[{"slice":[1,2],"slice":[3,4]},{"text":false,"text":true}]}"#,
+            "on a slice 3 4 text",
+        ),
+        (
+            r#"{"batch":[{"on":"a","do":[],"keep":1,"keep":"b"}]}"#,
+            "not built",
+        ),
+        (r#"{"on":"a","do":[]}"#, "on a"),
+        (
+            r#"{"do":[{"at":0},{"slice":[1,20]},{"text":true}],"on":"a"}"#,
             "on a at 0 slice 1 20 text",
         ),
         (
-            "{\"on\":\"a\",\"do\":[{\"at\":18446744073709551615}]}",
+            r#"{"on":"a","do":[{"at":18446744073709551615}]}"#,
             "on a at 18446744073709551615",
         ),
-        ("{\"load\":\"a\",\"bytes\":[]}", "not built"),
-        ("{\"load\":\"a\",\"bytes\":[0,255]}", "not built"),
+        (r#"{"load":"a","bytes":[]}"#, "not built"),
+        (r#"{"load":"a","bytes":[0,255]}"#, "not built"),
         (
-            "{\"load\":\"a\",\"units\":[0,55296,65535]}",
+            r#"{"load":"a","units":[0,55296,65535]}"#,
             "load a units 0 55296 65535",
         ),
-        ("{\"load\":\"a\",\"literal\":9}", "not built"),
-        ("{\"copy\":\"a\",\"from\":\"b\"}", "not built"),
-        ("{\"drop\":\"a\"}", "not built"),
-        ("{\"compare\":[\"a\",\"b\"]}", "not built"),
-        ("{\"batch\":[]}", "not built"),
+        (r#"{"load":"a","literal":9}"#, "not built"),
+        (r#"{"copy":"a","from":"b"}"#, "not built"),
+        (r#"{"drop":"a"}"#, "not built"),
+        (r#"{"compare":["a","b"]}"#, "not built"),
+        (r#"{"batch":[]}"#, "not built"),
         (
-            "{\"batch\":[{\"on\":\"a\",\"do\":[{\"at\":1}],\"keep\":\"b\"},{\"on\":\"a\",\"do\":[]}]}",
+            r#"{"batch":[{"on":"a","do":[{"at":1}],"keep":"b"},{"on":"a","do":[]}]}"#,
             "not built",
         ),
         (
-            "{\"on\":\"a\",\"do\":[{\"at\":0},{\"place\":{\"utf8\":3}}]}",
+            r#"{"on":"a","do":[{"at":0},{"place":{"utf8":3}}]}"#,
             "on a at 0 place 3",
         ),
         (
-            "{\"on\":\"a\",\"do\":[{\"edit\":[0,1],\"with\":\"x\"}]}",
+            r#"{"on":"a","do":[{"edit":[0,1],"with":"x"}]}"#,
             "not built",
         ),
         (
-            "{\"on\":\"a\",\"do\":[{\"count\":\"scalars\"},{\"count\":\"utf8\"},{\"count\":\"utf16\"},{\"count\":\"characters\"}]}",
+            r#"{"on":"a","do":[{"count":"scalars"},{"count":"utf8"},{"count":"utf16"},{"count":"characters"}]}"#,
             "on a count Scalars count Utf8 count Utf16 count Characters",
         ),
     ] {
@@ -169,72 +189,90 @@ fn malformed_lines_are_syntax(rt: HostRuntime) -> Result<(), Fail> {
         "",
         " ",
         "load",
-        "{\"load\":",
-        "{\"load\":\"a\",\"text\":\"abc\"",
-        "{\"load\":\"a\",\"text\":\"abc\"} x",
-        "{\"load\":\"a\",\"text\":\"abc\",}",
+        r#"{"load":"#,
+        r#"{"load":"a","text":"abc""#,
+        r#"{"load":"a","text":"abc"} x"#,
+        r#"{"load":"a","text":"abc",}"#,
         "[]",
-        "\"load\"",
+        r#""load""#,
         "null",
         "{}",
-        "{\"load\":\"a\"}",
-        "{\"text\":\"a\"}",
-        "{\"load\":\"a\",\"text\":\"x\",\"more\":1}",
-        "{\"load\":\"a\",\"text\":\"x\",\"bytes\":[]}",
-        "{\"load\":\"a\",\"from\":\"x\"}",
-        "{\"LOAD\":\"a\",\"text\":\"x\"}",
-        "{\"load\":\"\",\"text\":\"x\"}",
-        "{\"load\":1,\"text\":\"x\"}",
-        "{\"load\":\"a\",\"text\":1}",
-        "{\"load\":\"a\",\"text\":null}",
-        "{\"load\":\"a\",\"text\":\"x\",\"text\":1}",
-        "{\"load\":\"a\",\"text\":\"\\ud83d\"}",
-        "{\"load\":\"a\",\"text\":\"\\ude00\"}",
-        "{\"load\":\"a\",\"text\":\"\\x\"}",
+        r#"{"load":"a"}"#,
+        r#"{"text":"a"}"#,
+        r#"{"load":"a","text":"x","more":1}"#,
+        r#"{"load":"a","text":"x","bytes":[]}"#,
+        r#"{"load":"a","from":"x"}"#,
+        r#"{"LOAD":"a","text":"x"}"#,
+        r#"{"load":"","text":"x"}"#,
+        r#"{"load":1,"text":"x"}"#,
+        r#"{"load":"a","text":1}"#,
+        r#"{"load":"a","text":null}"#,
+        r#"{"load":"a","text":"x","text":1}"#,
+        r#"{"load":"a","text":"x","load":""}"#,
+        r#"{"load":"a","load":"b"}"#,
+        r#"{"load":"a","text":"\ud83d"}"#,
+        r#"{"load":"a","text":"\ude00"}"#,
+        r#"{"load":"a","text":"\ude00\ud83d"}"#,
+        r#"{"load":"a","text":"\ud83dx"}"#,
+        r#"{"load":"\udc00","text":"x"}"#,
+        r#"{"load":"a","text":"\x"}"#,
         "{\"load\":\"a\",\"text\":\"\u{1}\"}",
         "{\"load\":\"a\",\"text\":\"\t\"}",
-        "{\"load\":\"a\",\"bytes\":[256]}",
-        "{\"load\":\"a\",\"bytes\":[-1]}",
-        "{\"load\":\"a\",\"bytes\":[1.0]}",
-        "{\"load\":\"a\",\"bytes\":7}",
-        "{\"load\":\"a\",\"units\":[65536]}",
-        "{\"load\":\"a\",\"units\":[\"1\"]}",
-        "{\"load\":\"a\",\"literal\":-1}",
-        "{\"copy\":\"a\",\"from\":\"\"}",
-        "{\"drop\":[\"a\"]}",
-        "{\"compare\":[\"a\"]}",
-        "{\"compare\":[\"a\",\"b\",\"c\"]}",
-        "{\"compare\":[\"a\",1]}",
-        "{\"batch\":{}}",
-        "{\"batch\":[{\"on\":\"a\"}]}",
-        "{\"batch\":[{\"on\":\"a\",\"do\":[],\"keep\":1}]}",
-        "{\"batch\":[{\"on\":\"a\",\"do\":[],\"keep\":\"b\",\"more\":1}]}",
-        "{\"on\":\"a\",\"do\":{}}",
-        "{\"on\":\"a\",\"do\":[1]}",
-        "{\"on\":\"a\",\"do\":[{}]}",
-        "{\"on\":\"a\",\"do\":[{\"at\":-1}]}",
-        "{\"on\":\"a\",\"do\":[{\"at\":-0}]}",
-        "{\"on\":\"a\",\"do\":[{\"at\":1.5}]}",
-        "{\"on\":\"a\",\"do\":[{\"at\":1.0}]}",
-        "{\"on\":\"a\",\"do\":[{\"at\":1e3}]}",
-        "{\"on\":\"a\",\"do\":[{\"at\":18446744073709551616}]}",
-        "{\"on\":\"a\",\"do\":[{\"at\":\"1\"}]}",
-        "{\"on\":\"a\",\"do\":[{\"at\":01}]}",
-        "{\"on\":\"a\",\"do\":[{\"at\":1,\"more\":1}]}",
-        "{\"on\":\"a\",\"do\":[{\"place\":3}]}",
-        "{\"on\":\"a\",\"do\":[{\"place\":{\"utf16\":3}}]}",
-        "{\"on\":\"a\",\"do\":[{\"place\":{\"utf8\":3,\"utf16\":3}}]}",
-        "{\"on\":\"a\",\"do\":[{\"slice\":[1]}]}",
-        "{\"on\":\"a\",\"do\":[{\"slice\":[1,2,3]}]}",
-        "{\"on\":\"a\",\"do\":[{\"slice\":[1,true]}]}",
-        "{\"on\":\"a\",\"do\":[{\"edit\":[1,2]}]}",
-        "{\"on\":\"a\",\"do\":[{\"edit\":[1,2],\"with\":3}]}",
-        "{\"on\":\"a\",\"do\":[{\"count\":\"bytes\"}]}",
-        "{\"on\":\"a\",\"do\":[{\"count\":\"Utf8\"}]}",
-        "{\"on\":\"a\",\"do\":[{\"text\":false}]}",
-        "{\"on\":\"a\",\"do\":[{\"text\":1}]}",
+        "{\"load\":\"a\",\"text\":\"\u{0}\"}",
+        "{\"load\":\"\u{1F}\",\"text\":\"x\"}",
+        r#"{"load":"a","bytes":[256]}"#,
+        r#"{"load":"a","bytes":[-1]}"#,
+        r#"{"load":"a","bytes":[1.0]}"#,
+        r#"{"load":"a","bytes":7}"#,
+        r#"{"load":"a","units":[65536]}"#,
+        r#"{"load":"a","units":["1"]}"#,
+        r#"{"load":"a","literal":-1}"#,
+        r#"{"copy":"a","from":""}"#,
+        r#"{"drop":["a"]}"#,
+        r#"{"compare":["a"]}"#,
+        r#"{"compare":["a","b","c"]}"#,
+        r#"{"compare":["a",1]}"#,
+        r#"{"batch":{}}"#,
+        r#"{"batch":[{"on":"a"}]}"#,
+        r#"{"batch":[{"on":"a","do":[],"keep":1}]}"#,
+        r#"{"batch":[{"on":"a","do":[],"keep":"b","more":1}]}"#,
+        r#"{"on":"a","do":{}}"#,
+        r#"{"on":"a","do":[1]}"#,
+        r#"{"on":"a","do":[{}]}"#,
+        r#"{"on":"a","do":[{"at":-1}]}"#,
+        r#"{"on":"a","do":[{"at":-0}]}"#,
+        r#"{"on":"a","do":[{"at":1.5}]}"#,
+        r#"{"on":"a","do":[{"at":1.0}]}"#,
+        r#"{"on":"a","do":[{"at":1e3}]}"#,
+        r#"{"on":"a","do":[{"at":18446744073709551616}]}"#,
+        r#"{"on":"a","do":[{"at":99999999999999999999999999}]}"#,
+        r#"{"on":"a","do":[{"at":1e0}]}"#,
+        r#"{"on":"a","do":[{"at":+1}]}"#,
+        r#"{"on":"a","do":[{"at":null}]}"#,
+        r#"{"on":"a","do":[{"at":[1]}]}"#,
+        r#"{"on":"a","do":[{"at":"1"}]}"#,
+        r#"{"on":"a","do":[{"at":01}]}"#,
+        r#"{"on":"a","do":[{"at":1,"more":1}]}"#,
+        r#"{"on":"a","do":[{"at":1,"at":-1}]}"#,
+        r#"{"on":"a","do":[{"at":1,"place":{"utf8":1}}]}"#,
+        r#"{"on":"a","do":[{"place":3}]}"#,
+        r#"{"on":"a","do":[{"place":{"utf16":3}}]}"#,
+        r#"{"on":"a","do":[{"place":{"utf8":3,"utf16":3}}]}"#,
+        r#"{"on":"a","do":[{"place":{}}]}"#,
+        r#"{"on":"a","do":[{"place":{"utf8":3,"utf8":-3}}]}"#,
+        r#"{"on":"a","do":[{"place":{"utf8":"3"}}]}"#,
+        r#"{"on":"a","do":[{"slice":[1]}]}"#,
+        r#"{"on":"a","do":[{"slice":[1,2,3]}]}"#,
+        r#"{"on":"a","do":[{"slice":[1,true]}]}"#,
+        r#"{"on":"a","do":[{"edit":[1,2]}]}"#,
+        r#"{"on":"a","do":[{"edit":[1,2],"with":3}]}"#,
+        r#"{"on":"a","do":[{"count":"bytes"}]}"#,
+        r#"{"on":"a","do":[{"count":"Utf8"}]}"#,
+        r#"{"on":"a","do":[{"text":false}]}"#,
+        r#"{"on":"a","do":[{"text":1}]}"#,
         // Syntax is told before what isn't built.
-        "{\"on\":\"a\",\"do\":[{\"count\":\"utf8\"},{\"at\":1.5}]}",
+        r#"{"on":"a","do":[{"edit":[0,0],"with":""},{"at":1.5}]}"#,
+        r#"{"batch":[{"on":"a","do":[]},{"on":"","do":[]}]}"#,
     ] {
         assert_eq!(rt;
             outcome(rt.alloc(), line.as_bytes())?.as_str(),
@@ -242,29 +280,57 @@ fn malformed_lines_are_syntax(rt: HostRuntime) -> Result<(), Fail> {
             "line {line}"
         );
     }
-    let no_utf8 = [123u8, 34, 100, 114, 111, 112, 34, 58, 34, 255, 34, 125];
-    assert_eq!(rt; outcome(rt.alloc(), &no_utf8)?.as_str(), "syntax");
+    // Bytes that are no UTF-8, as a name: none that begins so, a lead alone, two bytes for one, half a pair, past the last scalar.
+    let names: [&[u8]; 5] = [
+        b"\xFF",
+        b"\xC3",
+        b"\xC0\xAF",
+        b"\xED\xA0\x80",
+        b"\xF4\x90\x80\x80",
+    ];
+    for name in names {
+        let mut line = Vec::new(rt.alloc());
+        line.extend_from_slice(b"{\"drop\":\"")?;
+        line.extend_from_slice(name)?;
+        line.extend_from_slice(b"\"}")?;
+        assert_eq!(rt;
+            outcome(rt.alloc(), line.as_slice())?.as_str(),
+            "syntax",
+            "{name:?}"
+        );
+    }
     Ok(())
 }
 
 #[test]
 fn names_batches_and_depth_have_limits(rt: HostRuntime) -> Result<(), Fail> {
     let alloc = rt.alloc();
-    let job = "{\"on\":\"a\",\"do\":[]}";
-    let later = ",{\"on\":\"a\",\"do\":[]}";
+    let job = r#"{"on":"a","do":[]}"#;
+    let later = r#",{"on":"a","do":[]}"#;
     for (front, piece, count, back, want) in [
-        ("{\"drop\":\"", "n", 64, "\"}", "not built"),
-        ("{\"drop\":\"", "n", 65, "\"}", "syntax"),
-        ("{\"drop\":\"", "é", 32, "\"}", "not built"),
-        ("{\"drop\":\"n", "é", 32, "\"}", "syntax"),
+        (r#"{"drop":""#, "n", 64, r#""}"#, "not built"),
+        (r#"{"drop":""#, "n", 65, r#""}"#, "syntax"),
+        (r#"{"drop":""#, "é", 32, r#""}"#, "not built"),
+        (r#"{"drop":"n"#, "é", 32, r#""}"#, "syntax"),
         ("", "[", 200, "", "syntax"),
-        ("{\"text\":\"x\",\"load\":", "[", 100, "", "syntax"),
+        (r#"{"text":"x","load":"#, "[", 100, "", "syntax"),
+        ("", r#"[{"on":"#, 200, "", "syntax"),
     ] {
         let line = repeated(alloc, front, piece, count, back)?;
         assert_eq!(rt;
             outcome(alloc, line.as_bytes())?.as_str(),
             want,
             "{count} times {piece}"
+        );
+    }
+    // The object with the lists in it may be 127 deep, and a later value stands in place of the deep one.
+    for (deep, want) in [(126usize, "load b x"), (127, "syntax"), (5000, "syntax")] {
+        let lists = repeated(alloc, r#"{"text":"x","load":"#, "[", deep, "")?;
+        let line = repeated(alloc, lists.as_str(), "]", deep, r#","load":"b"}"#)?;
+        assert_eq!(rt;
+            outcome(alloc, line.as_bytes())?.as_str(),
+            want,
+            "{deep} lists"
         );
     }
     for (count, want) in [(63usize, "not built"), (64, "syntax")] {
@@ -310,7 +376,7 @@ fn op_replies(alloc: Global) -> Result<OpReplies, AllocFailed<OpReply>>
 }
 
 const RESULTS: &str =
-    "[{\"utf16\":0,\"utf8\":0,\"value\":128512},{\"utf16\":2,\"utf8\":4,\"value\":null},{\"count\":7},{\"error\":\"too long\"},{\"error\":\"out of bounds\",\"utf16\":3},{\"error\":\"out of bounds\",\"utf8\":18446744073709551615},{\"scalars\":1,\"utf16\":2,\"utf8\":4}]";
+    r#"[{"utf16":0,"utf8":0,"value":128512},{"utf16":2,"utf8":4,"value":null},{"count":7},{"error":"too long"},{"error":"out of bounds","utf16":3},{"error":"out of bounds","utf8":18446744073709551615},{"scalars":1,"utf16":2,"utf8":4}]"#;
 
 fn written(alloc: Global, reply: &Reply) -> Result<Vec<u8>, Fail>
     requires { IsShown reply.now }
@@ -326,20 +392,20 @@ fn replies_are_compact_json_with_keys_in_order(rt: HostRuntime) -> Result<(), Fa
         utf16: 4,
         utf8: 5,
     };
-    let counted = "{\"scalars\":3,\"utf16\":4,\"utf8\":5}";
+    let counted = r#"{"scalars":3,"utf16":4,"utf8":5}"#;
     assert_eq!(rt; written(alloc, &counts)?.as_slice(), counted.as_bytes());
     assert_eq!(rt;
         written(alloc, &Reply::Copied)?.as_slice(),
-        "{\"ok\":\"copy\"}".as_bytes()
+        r#"{"ok":"copy"}"#.as_bytes()
     );
     assert_eq!(rt;
         written(alloc, &Reply::Dropped)?.as_slice(),
-        "{\"ok\":\"drop\"}".as_bytes()
+        r#"{"ok":"drop"}"#.as_bytes()
     );
     for (order, want) in [
-        (Ordering::Less, "{\"order\":\"less\"}"),
-        (Ordering::Equal, "{\"order\":\"equal\"}"),
-        (Ordering::Greater, "{\"order\":\"greater\"}"),
+        (Ordering::Less, r#"{"order":"less"}"#),
+        (Ordering::Equal, r#"{"order":"equal"}"#),
+        (Ordering::Greater, r#"{"order":"greater"}"#),
     ] {
         assert_eq!(rt;
             written(alloc, &Reply::Order(order))?.as_slice(),
@@ -353,26 +419,23 @@ fn replies_are_compact_json_with_keys_in_order(rt: HostRuntime) -> Result<(), Fa
 fn refusals_name_their_cause(rt: HostRuntime) -> Result<(), Fail> {
     let alloc = rt.alloc();
     let syntax = written(alloc, &Reply::Refused(Refusal::Syntax))?;
-    assert_eq!(rt; syntax.as_slice(), "{\"error\":\"syntax\"}".as_bytes());
+    assert_eq!(rt; syntax.as_slice(), r#"{"error":"syntax"}"#.as_bytes());
     let not_built = written(alloc, &Reply::Refused(Refusal::NotBuilt))?;
-    assert_eq!(rt;
-        not_built.as_slice(),
-        "{\"error\":\"not built\"}".as_bytes()
-    );
+    assert_eq!(rt; not_built.as_slice(), r#"{"error":"not built"}"#.as_bytes());
     let no_literal = written(alloc, &Reply::Refused(Refusal::NoLiteral))?;
     assert_eq!(rt;
         no_literal.as_slice(),
-        "{\"error\":\"no literal\"}".as_bytes()
+        r#"{"error":"no literal"}"#.as_bytes()
     );
     let not_utf8 = written(alloc, &Reply::Refused(Refusal::NotUtf8 { valid: 0 }))?;
     assert_eq!(rt;
         not_utf8.as_slice(),
-        "{\"error\":\"not utf-8\",\"valid\":0}".as_bytes()
+        r#"{"error":"not utf-8","valid":0}"#.as_bytes()
     );
     let too_many = written(alloc, &Reply::Refused(Refusal::TooManyNames))?;
     assert_eq!(rt;
         too_many.as_slice(),
-        "{\"error\":\"too many names\"}".as_bytes()
+        r#"{"error":"too many names"}"#.as_bytes()
     );
     Ok(())
 }
