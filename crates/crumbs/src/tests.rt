@@ -19,22 +19,15 @@ use std::marker::Brand;
 use std::process::Abort;
 use std::sync::ledger::{Blank, Ledger};
 use text_spec::{Encoding, OutOfMemory, TextList};
-use word_units::{OutOfBounds, Steps, Text};
+use word_units::{OutOfBounds, Steps, Text, byte_word};
 
 /// The words of a stored text: a count word, and eight bytes to a word behind it.
 fn stored(alloc: Global, text: &str) -> Result<Vec<u64>, OutOfMemory> {
+    let bytes = text.as_bytes();
     let mut words = Vec::new(alloc);
-    words.push((text.len() as u64) | 0x3000_0000_0000_0000)?;
-    let mut word: u64 = 0;
-    for (p, byte) in text.bytes().enumerate() {
-        word |= (byte as u64).wrapping_shl((8 * (p % 8)) as u32);
-        if p % 8 == 7 {
-            words.push(word)?;
-            word = 0;
-        }
-    }
-    if text.len() % 8 != 0 {
-        words.push(word)?;
+    words.push((bytes.len() as u64) | 0x3000_0000_0000_0000)?;
+    for k in 0..(bytes.len() + 7) / 8 {
+        words.push(byte_word(bytes, k))?;
     }
     Ok(words)
 }

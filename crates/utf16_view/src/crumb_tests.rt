@@ -12,22 +12,15 @@ use std::marker::Brand;
 use std::process::Abort;
 use std::sync::ledger::{Blank, Ledger};
 use text_spec::OutOfMemory;
-use word_units::{OutOfBounds, Steps, Text};
+use word_units::{OutOfBounds, Steps, Text, byte_word};
 
 /// The words of a stored text: a count word, and eight bytes to a word behind it.
 fn stored(alloc: Global, text: &str) -> Result<Vec<u64>, OutOfMemory> {
+    let bytes = text.as_bytes();
     let mut words = Vec::new(alloc);
-    words.push((text.len() as u64) | 0x3000_0000_0000_0000)?;
-    let mut word: u64 = 0;
-    for (p, byte) in text.bytes().enumerate() {
-        word |= (byte as u64).wrapping_shl((8 * (p % 8)) as u32);
-        if p % 8 == 7 {
-            words.push(word)?;
-            word = 0;
-        }
-    }
-    if text.len() % 8 != 0 {
-        words.push(word)?;
+    words.push((bytes.len() as u64) | 0x3000_0000_0000_0000)?;
+    for k in 0..(bytes.len() + 7) / 8 {
+        words.push(byte_word(bytes, k))?;
     }
     Ok(words)
 }
@@ -237,9 +230,26 @@ fn a_pair_over_a_stride_is_found_by_its_second_half(rt: HostRuntime) -> Result<(
         }
     }
     let mut t = with_and_without::<64>(&rt, alloc, text.as_str())?;
-    assert_eq!(rt; word_at(&mut t.with, 64), Ok(8273924));
-    assert_eq!(rt; word_at(&mut t.with, 63), Ok(8257541));
-    assert_eq!(rt; offset_at(&mut t.with, 8257541), Ok(63));
-    assert_eq!(rt; offset_at(&mut t.with, 8273924), Ok(64));
+    for (offset, word, reads) in [
+        (0, 5, 2),
+        (63, 8257541, 65),
+        (64, 8273924, 2),
+        (65, 8519685, 2),
+        (127, 16646149, 64),
+        (128, 16777221, 2),
+    ] {
+        assert_eq!(rt; word_at(&mut t.with, offset), Ok(word), "unit {offset}");
+        assert_eq!(rt; t.with.take_reads(), reads, "words for unit {offset}");
+    }
+    for (word, offset, reads) in [
+        (5, 0, 4),
+        (8257541, 63, 68),
+        (8273924, 64, 6),
+        (8519685, 65, 7),
+        (16777221, 128, 4),
+    ] {
+        assert_eq!(rt; offset_at(&mut t.with, word), Ok(offset), "index {word}");
+        assert_eq!(rt; t.with.take_reads(), reads, "words for index {word}");
+    }
     check_all::<64>(&rt, alloc, text.as_str())
 }

@@ -186,6 +186,9 @@ fn every_offset_has_its_index_and_back(rt: HostRuntime) -> Result<(), OutOfMemor
         &mut lone,
         &[(0xFFFD, 65545), (0x41, 131081), (0xFFFD, 196617)],
     );
+    // a lone first half, 'A'
+    let mut lone = VecText::from_utf16(alloc, &[0xD800, 0x41])?.expect(&rt, "two units");
+    rows_hold(&rt, &mut lone, &[(0xFFFD, 65545), (0x41, 131081)]);
     let mut none = VecText::from_utf8(alloc, "")?.expect(&rt, "no byte");
     rows_hold(&rt, &mut none, &[]);
     Ok(())
