@@ -1,13 +1,16 @@
 //! Times the crates of shared storage: histories checked; by one owner and by two in threads, slots published and
-//! released, one slot retained and released, and one asked for its side.
+//! released, one slot retained and released, and one asked for its side; UTF-16 offsets of a text asked, with its breadcrumbs and
+//! without.
 //!
 //! Standard output tells what was done and is the same in each run; standard error tells the milliseconds.
 #![tactic(auto)]
 
 mod copies;
 mod histories;
+mod listed;
 mod looks;
 mod pairs;
+mod places;
 
 use anyhow::Result;
 
@@ -19,5 +22,8 @@ fn main(rt: HostRuntime) -> Result<()> {
     copies::one_owner(&rt, rt.alloc(), 10_000_000)?;
     copies::two_owners(&rt, rt.alloc(), 5_000_000)?;
     looks::one_owner(&rt, rt.alloc(), 10_000_000)?;
-    looks::two_owners(&rt, rt.alloc(), 5_000_000)
+    looks::two_owners(&rt, rt.alloc(), 5_000_000)?;
+    places::ask(&rt, rt.alloc(), 1_000_000, true)?;
+    places::ask(&rt, rt.alloc(), 10_000, true)?;
+    places::ask(&rt, rt.alloc(), 10_000, false)
 }

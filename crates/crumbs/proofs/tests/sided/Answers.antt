@@ -1,4 +1,4 @@
-use Rattle.std.proofs.Common.{◌≡◌, sym, ap, ◌∙◌, ℕ, List, ◌+◌, ◌/◌, ◌<◌, ◌≤◌, [], ◌++◌, length, get_or, arith}
+use Rattle.std.proofs.Common.{◌≡◌, sym, ap, ◌∙◌, ◌/◌, [], ◌++◌, length, get_or, arith}
 use Rattle.std.specs.Option.{unwrap_or}
 use Rattle.text_spec.specs.Crumbs.{size16, crumbs}
 use Rattle.slot_table.specs.Owners.{DraftSeen, PassSeen, RefSeen}
