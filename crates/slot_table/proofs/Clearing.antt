@@ -16,9 +16,9 @@ use Rattle.slot_table.specs.declared.view.View.{View}
 use Rattle.slot_table.specs.declared.view.Role.TheVariants.{Reference}
 use Rattle.slot_table.specs.Addresses.{ref_at, crumb_at, data_at, crumb_of}
 use Rattle.slot_table.specs.Seats.{total, one, times, weight_on, closing_on, free_on, Once}
-use Rattle.slot_table.specs.Holdings.{SlotOk, SeatOk, ReferenceOk, Holds}
+use Rattle.slot_table.specs.Holdings.{SlotOk, SeatOk, SideOk, ReferenceOk, Holds}
 use Rattle.slot_table.specs.Steps.{Sat, recorded, found_in, opening}
-use Rattle.slot_table.specs.ReferenceSteps.{cleared, Clears}
+use Rattle.slot_table.specs.ReferenceSteps.{cleared, FindsKnown, Clears}
 use Rattle.slot_table.proofs.Sums.{total_set, total_at, total_two, times_append}
 use Rattle.slot_table.proofs.Rows.{apart, within, data_not_crumb}
 use Rattle.slot_table.proofs.Turns.{turn, turned, Owes, OwesOne, turn_one, prefix_more, prefix_trans, total_same, listed, still_legal}
@@ -78,6 +78,10 @@ module _ (fits : List ℕ → List ℕ → Type 0) (k : Layout) (ls : List (List
 
     found_is : found_in n ≡ side_in (at h x)
     found_is = ap found_in here.crumb ∙ found-crumb (side_in (at h x))
+
+    -- the side that was known is the slot's
+    finds_known : FindsKnown v n
+    finds_known = (λ b. here.crumb ∙ ap crumb_of (mine_ok.bare_is b).1, λ d is. found_is ∙ (subst (SideOk k h v) is mine_ok.side_is).1)
 
     -- no other reference is on the slot
     apart_x : (j : ℕ) (y : View) → j ≢ id → get_elem? s.views j ≡ some y → ReferenceOk k h y → y.slot ≢ x
@@ -252,7 +256,7 @@ module _ (fits : List ℕ → List ℕ → Type 0) (k : Layout) (ls : List (List
       holds,
       (
         seat.told_is,
-        subst (λ (l : Layout). n ≤ l.slots) (sym mine_ok.layout_is) (found_below fits k ls s r x n here.crumb),
+        (subst (λ (l : Layout). n ≤ l.slots) (sym mine_ok.layout_is) (found_below fits k ls s r x n here.crumb), finds_known),
         subst (λ (l : Layout). Once l.slots (after n r.all).free) (sym mine_ok.layout_is) (once fits k ls (turned s (crumb_at k x) 0 id (after n r.all)) holds id (after n r.all) (set_here s.views id (after n r.all) (listed s.views id v at_id))),
         (r.all, seat.front_is, still_legal fits k r.all (opening n v) v.layout mine_ok.layout_is r.legal applies, refl, refl),
       ),

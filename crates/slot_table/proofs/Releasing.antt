@@ -179,22 +179,28 @@ module _ (fits : List ℕ → List ℕ → Type 0) (k : Layout) (ls : List (List
           gone Closing r.all true,
           turn_one fits k ls s r id x 1 (n - 1) v _ (Release x true) (closing dx) at_id (last_owes is),
           (
-            r.all,
-            (r.seats id v at_id).front_is,
-            subst (λ (b : Bool). Legal fits v.layout (r.all ++ Release x b ∷ [])) (sym (eq-eqb n 1 is)) (still_legal fits k r.all _ v.layout (r.seats id v at_id).role_is.layout_is r.legal (last_owes is).applies),
-            ap (λ (b : Bool). gone (cond b Closing Share) r.all b) (sym (eq-eqb n 1 is)),
-            refl,
+            λ b. here.count ∙ ((r.seats id v at_id).role_is.sole_is b).1,
+            (
+              r.all,
+              (r.seats id v at_id).front_is,
+              subst (λ (b : Bool). Legal fits v.layout (r.all ++ Release x b ∷ [])) (sym (eq-eqb n 1 is)) (still_legal fits k r.all _ v.layout (r.seats id v at_id).role_is.layout_is r.legal (last_owes is).applies),
+              ap (λ (b : Bool). gone (cond b Closing Share) r.all b) (sym (eq-eqb n 1 is)),
+              refl,
+            ),
           ),
         ))
         (λ (ne : ¬ (n ≡ 1)). (
           gone Share r.all false,
           turn_one fits k ls s r id x 1 (n - 1) v _ (Release x false) (held (n - 1) ws dx) at_id (more_owes ne),
           (
-            r.all,
-            (r.seats id v at_id).front_is,
-            subst (λ (b : Bool). Legal fits v.layout (r.all ++ Release x b ∷ [])) (sym (ne_eqb n 1 ne)) (still_legal fits k r.all _ v.layout (r.seats id v at_id).role_is.layout_is r.legal (more_owes ne).applies),
-            ap (λ (b : Bool). gone (cond b Closing Share) r.all b) (sym (ne_eqb n 1 ne)),
-            refl,
+            λ b. here.count ∙ ((r.seats id v at_id).role_is.sole_is b).1,
+            (
+              r.all,
+              (r.seats id v at_id).front_is,
+              subst (λ (b : Bool). Legal fits v.layout (r.all ++ Release x b ∷ [])) (sym (ne_eqb n 1 ne)) (still_legal fits k r.all _ v.layout (r.seats id v at_id).role_is.layout_is r.legal (more_owes ne).applies),
+              ap (λ (b : Bool). gone (cond b Closing Share) r.all b) (sym (ne_eqb n 1 ne)),
+              refl,
+            ),
           ),
         ))
 

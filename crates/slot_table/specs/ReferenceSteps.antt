@@ -120,8 +120,12 @@ abbrev pub cleared : ℕ → View → View
 cleared zero v = record v { bare = true; side = None; side_words = [] }
 cleared (suc d) v = record v { bare = true; side = None; side_words = []; free = v.free ++ d ∷ [] }
 
+-- a side that was known is the one that is found, and where the slot was marked bare none is
+abbrev pub FindsKnown : View → ℕ → Type 0
+FindsKnown v n = (v.bare ≡ true → n ≡ 0) × ((d : ℕ) → v.side ≡ Some d → found_in n ≡ Some d)
+
 abbrev pub Clears : (List ℕ → List ℕ → Type 0) → Step ℕ → Sat → ℕ → Sat → Type 0
-Clears fits st m n m' = IsPrefix m.0.told m.0.front × (n ≤ m.0.layout.slots) × Once m.0.layout.slots m'.0.free × Records fits m m' (opening n) (cleared n)
+Clears fits st m n m' = IsPrefix m.0.told m.0.front × ((n ≤ m.0.layout.slots) × FindsKnown m.0 n) × Once m.0.layout.slots m'.0.free × Records fits m m' (opening n) (cleared n)
 
 -- word j of the known side's words is found
 abbrev pub SideReads : Step ℕ → Sat → ℕ → Sat → Type 0

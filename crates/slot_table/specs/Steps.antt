@@ -93,7 +93,7 @@ joined v w = record v { front = longer v.front w.front; told = shorter_of v.fron
 abbrev pub Tells : Step ℕ → Sat → ℕ → Sat → Type 0
 Tells st m n m' = (m' ≡ m) × IsPrefix m.0.told m.0.front × Once m.0.layout.slots m.0.free × (m.0.credits ≤ m.0.layout.credits)
 
--- a reference is given up. Where it was the last, the seat closes the slot
+-- A reference is given up. Where it was the last, as it is where it was marked sole, the seat closes the slot
 abbrev pub left_role : ℕ → Role
 left_role n = cond (eqb n 1) Closing Share
 
@@ -110,7 +110,7 @@ abbrev pub letting_go : ℕ → View → Event
 letting_go n v = releasing (eqb n 1) v
 
 abbrev pub Releases : (List ℕ → List ℕ → Type 0) → Step ℕ → Sat → ℕ → Sat → Type 0
-Releases fits st m n m' = Records fits m m' (letting_go n) (let_go n)
+Releases fits st m n m' = (m.0.sole ≡ true → n ≡ 1) × Records fits m m' (letting_go n) (let_go n)
 
 -- the side that a crumb word shows
 abbrev pub found_in : ℕ → Option ℕ

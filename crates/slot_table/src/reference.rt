@@ -1,5 +1,5 @@
 //! One holder of a published slot.
-ghost use Rattle.std.specs.Prelude.{◌≡◌, ℕ, ◌+◌, ◌<◌, ◌≤◌, ◌↔◌, [], get_or, length, Bool, true, IsTrue, IsNone, IfNone, IfSome};
+ghost use Rattle.std.specs.Prelude.{◌≡◌, ℕ, ◌+◌, ◌<◌, ◌≤◌, ◌↔◌, [], get_or, length, Bool, true, IsTrue, IsNone, IsSome, IfNone, IfSome};
 ghost use Rattle.slot_model.specs.declared.event.Event.TheVariants.{Sole, Write};
 ghost use Rattle.slot_model.specs.History.{put};
 ghost use Rattle.slot_table.specs.Owners.{Adds, Released, Retained};
@@ -148,13 +148,14 @@ impl<'h, A: Attach> Ref<'h, A> {
         })
     }
 
-    /// Gives the reference up: makes the event Release, and answers whether it was the slot's last.
+    /// Gives the reference up: makes the event Release, and answers whether it was the slot's last, as it is where it is known sole.
     ///
     /// Where it was, the event Detach follows, and the slot and its side's slot, if any, come to `pass`. The credit comes to
     /// it in any case, with the places of the events. `pass` is of the same heap. Takes no memory.
     pub fn release(self, pass: &mut Pass<'h, A>) -> bool
         requires { self.heap ≡ pass.old.heap }
-        ensures { Released A.fits pass.old self.entry result pass.new }
+        ensures released { Released A.fits pass.old self.entry result pass.new }
+        ensures known { (self.entry.sole ≡ true) → IsTrue result }
     {
         let Ref {
             heap,
@@ -188,6 +189,7 @@ fn give_up<A: Attach>(heap: &Heap<A>, seat: &mut Seat<u64, View>, slot: u32) -> 
     ensures same { (seat.new.table_id ≡ seat.old.table_id) × (seat.new.me.1 ≡ []) }
     ensures left { LeftBy A.fits seat.old.me.0 seat.new.me.0 result }
     ensures few { IfSome result (λ n. n ≤ heap.now.layout.slots) }
+    ensures known { (seat.old.me.0.sole ≡ true) → IsSome result }
 {
     let place = ref_word(&heap.layout, slot);
     let crumb = crumb_word(&heap.layout, slot);

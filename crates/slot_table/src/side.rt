@@ -112,12 +112,16 @@ impl<'h, A: Attach> Ref<'h, A> {
 
     /// Makes the event Detach: its slot has no side from then on, and the side's slot comes to `pass`. It is bare then.
     ///
-    /// It is known sole, and `pass` is of the same heap. As in `Pass::meet`, both learn the longer of their fronts, and the pass takes all places. One exchange and
+    /// None where there was no side. It is known sole, and `pass` is of the same heap. As in `Pass::meet`, both learn the longer of their fronts, and the pass takes all places. One exchange and
     /// three loads of word 0, no memory and no spendable credit.
     pub fn detach(&mut self, pass: &mut Pass<'h, A>) -> Option<u32>
         requires heap { pass.old.heap ≡ self.old.heap }
         requires sole { self.old.sole ≡ true }
-        ensures { TakenAway A.fits self.old pass.old result self.new pass.new }
+        ensures taken { TakenAway A.fits self.old pass.old result self.new pass.new }
+        ensures bare { (self.old.bare ≡ true) → IsNone result }
+
+        // A side that was known is the one taken away.
+        ensures agrees { IfSome self.old.side (λ d. result ≡ Some d) }
     {
         let heap = self.heap;
         let shared = &heap.table.shared;

@@ -1,4 +1,4 @@
-use Rattle.std.proofs.Common.{rules, ◌≡◌, Bool, true, [], ◌∷◌, sym, ◌∙◌, subst}
+use Rattle.std.proofs.Common.{rules, ◌≡◌, Bool, true, [], ◌∷◌, sym, subst}
 use Rattle.slot_model.specs.declared.event.Event.TheVariants.{Publish}
 use Rattle.slot_table.specs.Owners.{PassSeen, DraftSeen, RefSeen, Adds, Released, IsEntire}
 use Rattle.slot_table.proofs.Lone.{lone_history}
@@ -13,7 +13,7 @@ returns-clause-history g c =
     let unplaced : p.places ≡ [] = search rules in
     let same : q ≡ c.release.new.pass = c.in_ok-whole.ensures.0 in
     let released : Released g.A.Attach.fits p r true q = subst (λ (s : PassSeen). Released g.A.Attach.fits p r true s) (sym same) (subst (λ (b : Bool). Released g.A.Attach.fits p r b c.release.new.pass) last
-    (subst (λ (s : RefSeen). Released g.A.Attach.fits p s c.release.result c.release.new.pass) c.read-word.ensures.kept c.release.ensures)) in
+    (subst (λ (s : RefSeen). Released g.A.Attach.fits p s c.release.result c.release.new.pass) c.read-word.ensures.kept c.release.ensures.released)) in
     let d : DraftSeen = c.write.new.self in
     let filled : d ≡ record { heap = r.heap; front = p.front; places = []; slot = r.slot; written = 7 ∷ [] } = search rules in
     let added : Adds g.A.Attach.fits r.heap.layout p.front [] (Publish r.slot (7 ∷ [])) r.front r.places =

@@ -1,4 +1,5 @@
-use Rattle.std.proofs.Common.{rules, ◌≡◌, ◌+◌, ℕ, suc, true, [], ◌∷◌, ◌++◌, length, refl, sym, ap, ◌∙◌, subst, arith, length-append}
+use Rattle.std.proofs.Common.{rules, ◌≡◌, ◌+◌, ℕ, suc, Some, None, true, [], ◌∷◌, ◌++◌, length, refl, sym, ap, ◌∙◌, subst, arith, length-append}
+use Rattle.std.specs.Prelude.{IfSome}
 use mathlib.Core.List.{IsPrefix}
 use Rattle.slot_model.specs.declared.layout.Layout.{Layout}
 use Rattle.slot_model.specs.History.{Legal}
@@ -15,7 +16,7 @@ use Rattle.slot_table.proofs.Counting.{once_length}
 use Rattle.slot_table.proofs.Offering.{found_none, found_some}
 use Rattle.slot_table.proofs.Fronts.{both_prefix}
 use Rattle.slot_table.proofs.Tying.{tied_on, is_pass_by}
-use Rattle.slot_table.proofs.Referring.{pass_bare, pass_cleared}
+use Rattle.slot_table.proofs.Referring.{pass_bare, pass_cleared, if_some}
 use Rattle.slot_table.proofs.Siding.{taken_away}
 use Rattle.slot_table.proofs.reference.Ref.detach.Goals as goal
 
@@ -73,7 +74,7 @@ shown_side-requires g c = let o = c.pass.invariant in
     let left : c.split_seat-spare.new.seat.me.0 ≡ c.pass.inside.seat.me.0 = ap (λ m. m.0) c.split_seat-spare.ensures.2 in
     let mine : c.replace-own.result.me.0 ≡ c.self.inside.seat.me.0 = ap (λ s. s.me.0) c.replace-own.ensures.value in
     let both : c.join_seat.new.seat.me.0 ≡ beside c.pass.inside.seat.me.0 c.self.inside.seat.me.0 = ap (λ m. m.0) c.join_seat.ensures.2 ∙ (λ t. beside (left t) (mine t)) in
-    let few = c.swap-crumb.ensures.2.1 in let slots = o.0.laid.slots_most in let same = ap (λ (v : View). v.layout.slots) both ∙ ap (λ (l : Layout). l.slots) o.0.layout_is in omega (arith, few, slots, same)
+    let few = c.swap-crumb.ensures.2.1.0 in let slots = o.0.laid.slots_most in let same = ap (λ (v : View). v.layout.slots) both ∙ ap (λ (l : Layout). l.slots) o.0.layout_is in omega (arith, few, slots, same)
 
 -- there was no side
 pub invariant_of-pass : goal.invariant_of-pass
@@ -90,8 +91,8 @@ invariant_of-pass g c =
       is_pass_by _ _ _ _ _ _ _ share refl refl (pass_bare g.A.Attach.fits v _ _ _ _ told.3.0 _ p same _ _ _ begins each.0 each.1 o.1 i.1),
     )
 
-pub returns-in_default : goal.returns-in_default
-returns-in_default g c =
+pub returns-in_default-clause-taken : goal.returns-in_default-clause-taken
+returns-in_default-clause-taken g c =
     let i = c.self.invariant in let o = c.pass.invariant in let v : View = c.self.inside.seat.me.0 in let p : View = c.pass.inside.seat.me.0 in let told = c.swap-crumb.ensures.2 in let e = c.split_seat-back.ensures in let n : ℕ = c.swap-crumb.result in
     let heaps : c.pass.inside.heap.now ≡ c.self.inside.heap.now = ap (λ (x : PassSeen). x.heap) c.pass.view_is ∙ (c.requires.heap ∙ sym (ap (λ (x : RefSeen). x.heap) c.self.view_is)) in
     let left : c.split_seat-spare.new.seat.me.0 ≡ p = ap (λ m. m.0) c.split_seat-spare.ensures.2 in let mine : c.replace-own.result.me.0 ≡ v = ap (λ s. s.me.0) c.replace-own.ensures.value in
@@ -130,8 +131,8 @@ invariant_of-pass-2 g c =
       is_pass_by _ _ _ _ _ _ _ share c.append_all.ensures.items c.append_all.ensures.capacity (pass_cleared g.A.Attach.fits v _ _ _ _ told.3.0 _ p same _ _ _ begins each.0 each.1 o.1 i.1 d once),
     )
 
-pub returns : goal.returns
-returns g c =
+pub returns-clause-taken : goal.returns-clause-taken
+returns-clause-taken g c =
     let i = c.self.invariant in let o = c.pass.invariant in let v : View = c.self.inside.seat.me.0 in let p : View = c.pass.inside.seat.me.0 in let told = c.swap-crumb.ensures.2 in let e = c.split_seat-back.ensures in let n : ℕ = c.swap-crumb.result in
     let heaps : c.pass.inside.heap.now ≡ c.self.inside.heap.now = ap (λ (x : PassSeen). x.heap) c.pass.view_is ∙ (c.requires.heap ∙ sym (ap (λ (x : RefSeen). x.heap) c.self.view_is)) in
     let left : c.split_seat-spare.new.seat.me.0 ≡ p = ap (λ m. m.0) c.split_seat-spare.ensures.2 in let mine : c.replace-own.result.me.0 ≡ v = ap (λ s. s.me.0) c.replace-own.ensures.value in
@@ -141,3 +142,30 @@ returns g c =
     let now : c.swap-crumb.new.seat.me.0 ≡ cleared (suc d) (recorded (beside p v) told.3.0 (opening (suc d) (beside p v))) = told.3.3 ∙ (λ t. cleared (is t) (recorded (both t) told.3.0 (opening (is t) (both t)))) in
     let legal = subst (λ (t : View × ℕ). Legal g.A.Attach.fits t.0.layout (told.3.0 ++ opening t.1 t.0 ∷ [])) (λ j. (both j, is j)) told.3.2 in
     taken_away g.A.Attach.fits _ _ _ _ v p _ _ told.3.0 (suc d) c.self.view_is c.pass.view_is (o.0.layout_is ∙ ap (λ (z : HeapId). z.layout) heaps) i.1.one_credit joint begins legal (ap (λ m. m.0) e.2 ∙ ap met_share now) (ap (λ s. s.me.0) c.replace.ensures.after ∙ (ap (λ m. m.0) e.4 ∙ ap met_reference now))
+
+-- a side that was known was there
+pub returns-in_default-clause-agrees : goal.returns-in_default-clause-agrees
+returns-in_default-clause-agrees g c =
+    let v : View = c.self.inside.seat.me.0 in let p : View = c.pass.inside.seat.me.0 in
+    let left : c.split_seat-spare.new.seat.me.0 ≡ p = ap (λ m. m.0) c.split_seat-spare.ensures.2 in let mine : c.replace-own.result.me.0 ≡ v = ap (λ s. s.me.0) c.replace-own.ensures.value in
+    let both : c.join_seat.new.seat.me.0 ≡ beside p v = ap (λ m. m.0) c.join_seat.ensures.2 ∙ (λ t. beside (left t) (mine t)) in
+    subst (λ (r : RefSeen). IfSome r.side (λ d. None ≡ Some d)) c.self.view_is (if_some v.side (λ d. None ≡ Some d)
+    (λ d is. sym (sym c.shown_side.ensures ∙ c.in_default.is) ∙ c.swap-crumb.ensures.2.1.1.1 d (ap (λ (z : View). z.side) both ∙ is)))
+
+pub returns-clause-agrees : goal.returns-clause-agrees
+returns-clause-agrees g c =
+    let v : View = c.self.inside.seat.me.0 in let p : View = c.pass.inside.seat.me.0 in
+    let left : c.split_seat-spare.new.seat.me.0 ≡ p = ap (λ m. m.0) c.split_seat-spare.ensures.2 in let mine : c.replace-own.result.me.0 ≡ v = ap (λ s. s.me.0) c.replace-own.ensures.value in
+    let both : c.join_seat.new.seat.me.0 ≡ beside p v = ap (λ m. m.0) c.join_seat.ensures.2 ∙ (λ t. beside (left t) (mine t)) in
+    let e : ℕ = c.in-Some.slot in
+    subst (λ (r : RefSeen). IfSome r.side (λ d. Some e ≡ Some d)) c.self.view_is (if_some v.side (λ d. Some e ≡ Some d)
+    (λ d is. sym (sym c.shown_side.ensures ∙ c.in-Some.is) ∙ c.swap-crumb.ensures.2.1.1.1 d (ap (λ (z : View). z.side) both ∙ is)))
+
+-- a bare reference's slot had none
+pub returns-clause-bare : goal.returns-clause-bare
+returns-clause-bare g c =
+    let v : View = c.self.inside.seat.me.0 in let p : View = c.pass.inside.seat.me.0 in
+    let left : c.split_seat-spare.new.seat.me.0 ≡ p = ap (λ m. m.0) c.split_seat-spare.ensures.2 in let mine : c.replace-own.result.me.0 ≡ v = ap (λ s. s.me.0) c.replace-own.ensures.value in
+    let both : c.join_seat.new.seat.me.0 ≡ beside p v = ap (λ m. m.0) c.join_seat.ensures.2 ∙ (λ t. beside (left t) (mine t)) in
+    let n : ℕ = c.swap-crumb.result in let d : ℕ = c.in-Some.slot in let is : n ≡ suc d = found_some n d (sym c.shown_side.ensures ∙ c.in-Some.is) in
+    λ b. let none_is : n ≡ 0 = c.swap-crumb.ensures.2.1.1.0 (ap (λ (z : View). z.bare) both ∙ (ap (λ (r : RefSeen). r.bare) c.self.view_is ∙ b)) in absurd (omega (arith, is, none_is))

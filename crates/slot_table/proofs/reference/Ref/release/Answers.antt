@@ -23,14 +23,14 @@ absorb-requires-in-Some-clause-loose g c = let v : View = c.self.inside.seat.me.
     let is : c.give_up.result ≡ Some (suc (c.in-Some.crumb - 1)) = c.in-Some.is ∙ ap (λ (n : ℕ). Some n) up in
     loose_after g.A.Attach.fits v w _ _ _ _ (Some (suc (c.in-Some.crumb - 1))) (subst (LeftBy g.A.Attach.fits v w) is c.give_up.ensures.left) c.self.invariant.1
 
-pub returns-in-Some-eq0 : goal.returns-in-Some-eq0
-returns-in-Some-eq0 g c = let i = c.self.invariant in let v : View = c.self.inside.seat.me.0 in let w : View = c.give_up.new.seat.me.0 in
+pub returns-in-Some-eq0-clause-released : goal.returns-in-Some-eq0-clause-released
+returns-in-Some-eq0-clause-released g c = let i = c.self.invariant in let v : View = c.self.inside.seat.me.0 in let w : View = c.give_up.new.seat.me.0 in
     let is : c.give_up.result ≡ Some 0 = c.in-Some-eq0.is ∙ ap (λ (n : ℕ). Some n) c.in-Some-eq0.field-0-test in
     let left = subst (LeftBy g.A.Attach.fits v w) is c.give_up.ensures.left in
     was_released g.A.Attach.fits _ _ _ _ _ v w (Some 0) _ c.self.view_is i.0.layout_is (loose_after g.A.Attach.fits v w _ _ _ _ (Some 0) left i.1).credits_are (ap (λ (x : ℕ). x ∷ []) (sym i.1.slot_is)) left c.absorb-in-Some-eq0.ensures
 
-pub returns-in-Some : goal.returns-in-Some
-returns-in-Some g c = let i = c.self.invariant in let v : View = c.self.inside.seat.me.0 in let w : View = c.give_up.new.seat.me.0 in
+pub returns-in-Some-clause-released : goal.returns-in-Some-clause-released
+returns-in-Some-clause-released g c = let i = c.self.invariant in let v : View = c.self.inside.seat.me.0 in let w : View = c.give_up.new.seat.me.0 in
     let not_none = c.in-Some.crumb-test.1 in let up : c.in-Some.crumb ≡ suc (c.in-Some.crumb - 1) = above_zero c.in-Some.crumb not_none in
     let is : c.give_up.result ≡ Some (suc (c.in-Some.crumb - 1)) = c.in-Some.is ∙ ap (λ (n : ℕ). Some n) up in
     let left = subst (LeftBy g.A.Attach.fits v w) is c.give_up.ensures.left in
