@@ -1,5 +1,5 @@
 //! Two owners of one slot that offer it a side at once, in threads, and one that takes its side away and installs another.
-ghost use Rattle.std.specs.Prelude.{◌≡◌, ◌<◌, length, IfSome};
+ghost use Rattle.std.specs.Prelude.{◌≡◌, ◌<◌, [], ◌∷◌, length, IfSome};
 
 use crate::tests::{closed, ended, layout, opened, share_of, stored};
 use crate::{Installed, Pass, Ref, Whole};
@@ -16,6 +16,17 @@ impl Attach for NotEmpty {
 
     fn check_fit(_words: &[u64], side: &[u64]) -> bool {
         side.len() > 0
+    }
+}
+
+// A side repeats its slot's words.
+struct Repeats;
+
+impl Attach for Repeats {
+    ghost fits = { λ words side. words ≡ side };
+
+    fn check_fit(words: &[u64], side: &[u64]) -> bool {
+        words == side
     }
 }
 
@@ -185,6 +196,59 @@ fn installed_again(
     let second = offered(&mut held, &mut pass, 22)?;
     held.release(&mut pass);
     Some((first, bare, second, ended(pass)))
+}
+
+// One word is offered as the side of one word, where it fits, and is given back where it doesn't. Whether the offer won.
+fn offered_if_fit<'h, A: Attach>(
+    held: &mut Ref<'h, A>,
+    pass: &mut Pass<'h, A>,
+    word: u64,
+    side: u64,
+) -> Option<bool>
+    requires heap { (held.old.heap ≡ pass.old.heap) × (0 < pass.old.heap.layout.capacity_words) }
+    requires known { held.old.known ≡ word ∷ [] }
+    ensures heap { (held.new.heap ≡ pass.old.heap) × (pass.new.heap ≡ pass.old.heap) }
+    ensures known { held.new.known ≡ word ∷ [] }
+    ensures fits { IfSome result (λ _. A.fits (word ∷ []) held.new.side_words) }
+{
+    let mut draft = pass.draft()?;
+    draft.write(side);
+    if !A::check_fit(&[word], &[side]) {
+        draft.abandon(pass);
+        return None;
+    }
+    Some(held.install(draft, pass) == Installed::Won)
+}
+
+// A side that doesn't fit, and one that does. What was answered, and how many slots were free after the first.
+fn repeated(
+    mut pass: Pass<'_, Repeats>,
+) -> Option<(Option<bool>, u32, Option<bool>, Option<Whole<Repeats>>)>
+    ensures { IfSome result (λ t. IfSome t.3 (λ w. w.heap ≡ pass.entry.heap)) }
+{
+    if pass.capacity_words() == 0 {
+        return None;
+    }
+    let mut held = stored(&mut pass, 7)?;
+    let other = offered_if_fit(&mut held, &mut pass, 7, 8);
+    let free = pass.free_slots();
+    let same = offered_if_fit(&mut held, &mut pass, 7, 7);
+    held.release(&mut pass);
+    Some((other, free, same, ended(pass)))
+}
+
+#[test]
+fn a_side_that_does_not_fit_is_given_back(rt: HostRuntime) -> Result<(), Fail> {
+    let alloc = rt.alloc();
+    let (heap, whole) = opened::<Repeats, HostRuntime>(&rt, alloc, &layout(2, 2, 3));
+    let Some((other, free, same, Some(whole))) = repeated(heap.pass(whole)) else {
+        panic!(rt; "a call was refused")
+    };
+    assert_eq!(rt; other, None, "another word as the side");
+    assert_eq!(rt; free, 1, "free slots after it");
+    assert_eq!(rt; same, Some(true), "the same word as the side");
+    assert_eq!(rt; closed(heap, whole), (2, 2), "slots and idle slots");
+    Ok(())
 }
 
 #[test]
