@@ -1,4 +1,4 @@
--- What one scalar more does to a walk.
+-- What one scalar more, or a word of ASCII, does to a walk.
 use Rattle.std.proofs.Common.{◌≡◌, ℕ, zero, suc, ◌+◌, ◌*◌, ◌<◌, ◌≤◌, ⊎_elim, List, [], ◌∷◌, arith}
 use Rattle.std.proofs.lemmas.Bool.{cases_lt}
 use Rattle.text_spec.specs.declared.encoding.Encoding.{Encoding}
@@ -6,7 +6,7 @@ use Rattle.text_spec.specs.Offsets.{start, down}
 use Rattle.text_spec.specs.Views.{width_in, other_width}
 use Rattle.text_spec.proofs.Walk.{start-mono}
 use Rattle.text_spec.proofs.Widths.{width_some, other_most}
-use Rattle.word_units.specs.Walking.{Passes}
+use Rattle.word_units.specs.Running.{PassesRun}
 use Rattle.rounding.specs.Resolving.{Reaches}
 
 -- a scalar has at most four units of one encoding for each of the other
@@ -21,24 +21,26 @@ earlier w b at to here there before =
     ⊎_elim (λ h. h) (λ (h : down w b to ≤ down w b at). absurd (omega (arith, here, there, before, start-mono w b (down w b to) (down w b at) h)))
     (cases_lt (down w b at) (down w b to))
 
--- the next boundary, which isn't after the end of the walk
-pub record Stepped (e : Encoding) (b : List ℕ) (at to next units : ℕ) : Type 0 where
+-- the boundary behind what is passed, which isn't after the end of the walk
+pub record Stepped (e : Encoding) (b : List ℕ) (at to next units scalars : ℕ) : Type 0 where
   pub reaches : Reaches e b next units
   pub within : next ≤ to
   pub before : down (width_in e) b at + 1 ≤ down (width_in e) b to
-  pub number : down (width_in e) b next ≡ down (width_in e) b at + 1
+  pub number : down (width_in e) b next ≡ down (width_in e) b at + scalars
+  pub some : 1 ≤ scalars
   pub few : units ≤ 4 * next
 
-pub stepped : (e : Encoding) (b : List ℕ) (at units to next more : ℕ) → Reaches e b at units → Passes e b at next more
-    → at < to → start (width_in e) b (down (width_in e) b to) ≡ to → Stepped e b at to next (units + more)
-stepped e b at units to next more reached passes before there =
+pub stepped : (e : Encoding) (b : List ℕ) (at units to most next more scalars : ℕ) → Reaches e b at units → PassesRun e b at most next more scalars
+    → at + most ≤ to → at < to → start (width_in e) b (down (width_in e) b to) ≡ to → Stepped e b at to next (units + more) scalars
+stepped e b at units to most next more scalars reached passes fits before there =
     let w = width_in e in
     let first = earlier w b at to reached.boundary there before in
     let offset : start (other_width e) b (down w b next) ≡ units + more = omega (arith, passes.other, reached.offset) in
     record {
       reaches = record { boundary = passes.boundary; offset = offset };
-      within = omega (arith, passes.boundary, there, start-mono w b (down w b next) (down w b to) (omega (arith, passes.number, first)));
+      within = ⊎_elim (λ one. omega (arith, passes.boundary, there, start-mono w b (down w b next) (down w b to) (omega (arith, passes.number, one, first)))) (λ run. omega (arith, run.2, run.3, fits)) passes.size;
       before = omega (arith, first);
       number = passes.number;
+      some = ⊎_elim (λ one. omega (arith, one)) (λ run. omega (arith, run.0)) passes.size;
       few = omega (arith, offset, passes.boundary, other_bound e b (down w b next));
     }

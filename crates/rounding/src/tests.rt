@@ -255,3 +255,35 @@ fn a_pair_may_cross_words_at_each_unit(rt: HostRuntime) -> Result<(), OutOfMemor
     }
     Ok(())
 }
+
+/// Letters that fill words of their own before and behind a wider scalar.
+#[test]
+fn offsets_are_read_behind_words_of_ascii(rt: HostRuntime) -> Result<(), OutOfMemory> {
+    // 17 letters, U+00E9 and 9 letters
+    let text = "aaaaaaaaaaaaaaaaaéaaaaaaaaa";
+    let mut t = VecText::from_utf8(rt.alloc(), text)?.expect(&rt, "28 bytes");
+    for (offset, position) in [
+        (0, 0),
+        (7, 7),
+        (8, 8),
+        (9, 9),
+        (15, 15),
+        (16, 16),
+        (17, 17),
+        (18, 19),
+        (26, 27),
+        (27, 28),
+    ] {
+        let there = word_of(position, 0, 5);
+        let row = (word_of(offset, 0, 8), Ok((there, there, there, there)));
+        rows_are(&rt, &mut t, &[row], text);
+    }
+    rows_are(&rt, &mut t, &[(word_of(28, 0, 8), out_of(28, 0, 27))], text);
+    let text = "aaaaaaaaaaaaaaaa😀";
+    let mut t = VecText::from_utf8(rt.alloc(), text)?.expect(&rt, "20 bytes");
+    let first = word_of(16, 0, 5);
+    let second = word_of(16, 1, 4);
+    let row = (word_of(17, 0, 8), Ok((second, first, second, first)));
+    rows_are(&rt, &mut t, &[row], text);
+    Ok(())
+}

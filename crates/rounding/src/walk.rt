@@ -1,11 +1,11 @@
-//! Walks from scalar to scalar that count the units of both encodings.
+//! Walks over scalars, a word of ASCII at once, that count the units of both encodings.
 ghost use Rattle.std.specs.Prelude.{◌≡◌, ◌+◌, ◌*◌, ◌<◌, ◌≤◌, ◌⊎◌, suc};
 ghost use Rattle.text_spec.specs.Offsets.{start, down};
 ghost use Rattle.text_spec.specs.Views.{width_in, other_width, size_in};
 ghost use Rattle.rounding.specs.Resolving.{Reaches};
 
 use std::sync::ledger::Ledger;
-use word_units::{Steps, Text, pass_scalar};
+use word_units::{Steps, Text, pass_run};
 
 /// How many units of the other encoding lie before `to`, of which `units` lie before `from`.
 ///
@@ -29,7 +29,7 @@ pub fn units_before<T: Text, L: Ledger>(
     let mut at = from;
     let mut reached = units;
     'scalars: while at < to {
-        let (next, more) = pass_scalar(t, at, steps);
+        let (next, more, _scalars) = pass_run(t, at, to - at, steps);
         at = next;
         reached += more;
     }
@@ -66,7 +66,8 @@ pub fn boundary_of<T: Text, L: Ledger>(
     let mut at = from;
     let mut reached = units;
     'scalars: while at < to {
-        let (next, more) = pass_scalar(t, at, steps);
+        let most = (to - at).min(offset - reached);
+        let (next, more, _scalars) = pass_run(t, at, most, steps);
         if offset - reached < more {
             return (at, reached);
         }

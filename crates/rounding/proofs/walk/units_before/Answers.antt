@@ -1,16 +1,17 @@
-use Rattle.std.proofs.Common.{◌+◌, arith, subst, ◌∙◌}
-use Rattle.word_units.specs.Walking.{Passes}
+use Rattle.std.proofs.Common.{◌+◌, ◌-◌, arith, subst, ◌∙◌}
+use Rattle.word_units.specs.Running.{PassesRun}
 use Rattle.rounding.proofs.Stepping.{Stepped, stepped}
 use Rattle.rounding.proofs.walk.units_before.Given.{Over}
 use Rattle.rounding.proofs.walk.units_before.Goals as goal
 
--- the scalar that is passed, of the text as it was
-step : (g : Over) (c : goal.After-pass_scalar-next g)
-    → Stepped (g.T.Text.storage c.args.t.now) (g.T.Text.whole c.args.t.now) c.scalars.at c.args.to c.pass_scalar-next.result.0 (c.scalars.reached + c.pass_scalar-next.result.1)
+-- what is passed, of the text as it was
+step : (g : Over) (c : goal.After-pass_run-next g)
+    → Stepped (g.T.Text.storage c.args.t.now) (g.T.Text.whole c.args.t.now) c.scalars.at c.args.to c.pass_run-next.result.0 (c.scalars.reached + c.pass_run-next.result.1) c.pass_run-next.result.2
 step g c =
-    stepped _ _ _ _ _ _ _ c.scalars.invariant.reaches
-    (subst (λ t. Passes (g.T.Text.storage t) (g.T.Text.whole t) c.scalars.at c.pass_scalar-next.result.0 c.pass_scalar-next.result.1) c.scalars.invariant.same c.pass_scalar-next.ensures.passes)
-    c.scalars-test.true c.requires.boundary
+    stepped _ _ _ _ _ (c.args.to - c.scalars.at) _ _ _ c.scalars.invariant.reaches
+    (subst (λ t. PassesRun (g.T.Text.storage t) (g.T.Text.whole t) c.scalars.at (c.args.to - c.scalars.at) c.pass_run-next.result.0 c.pass_run-next.result.1 c.pass_run-next.result.2)
+    c.scalars.invariant.same c.pass_run-next.ensures.passes)
+    (omega (arith, c.scalars-test.true)) c.scalars-test.true c.requires.boundary
 
 pub overflow_add-reached : goal.overflow_add-reached
 overflow_add-reached g c =
@@ -23,6 +24,6 @@ scalars-preserved g c =
     record {
       reaches = next.reaches;
       not_after = next.within;
-      same = c.pass_scalar-next.ensures.kept ∙ c.scalars.invariant.same;
-      cost = omega (arith, c.pass_scalar-next.ensures.cost, c.scalars.invariant.cost, next.number);
+      same = c.pass_run-next.ensures.kept ∙ c.scalars.invariant.same;
+      cost = omega (arith, c.pass_run-next.ensures.cost, c.scalars.invariant.cost, next.number, next.some);
     }
