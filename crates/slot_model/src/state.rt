@@ -46,6 +46,7 @@ impl<'e> SlotState<'e> {
         }
     }
 
+    /// Whether it is idle: nobody holds it, and it is no slot's side.
     pub fn is_idle(&self) -> bool
         ensures { IsTrue result ↔ (slot_in self.now ≡ idle) }
     {
@@ -55,6 +56,7 @@ impl<'e> SlotState<'e> {
         }
     }
 
+    /// Whether its last reference was given up, and the Detach that makes it idle is still to come.
     pub fn is_closing(&self) -> bool
         ensures { IsTrue result ↔ (closing_in (slot_in self.now) ≡ 1) }
     {
