@@ -75,6 +75,20 @@ fn lines_get_the_replies_worked_out_by_hand(rt: HostRuntime) -> Result<(), OutOf
             r#"{"on":"a","do":[{"at":0},{"at":1},{"at":2}]}"#,
             r#"{"results":[{"utf16":0,"utf8":0,"value":233},{"utf16":1,"utf8":2,"value":26085},{"utf16":2,"utf8":5,"value":120}]}"#,
         ),
+        // A slice takes nothing from the text, nor does a refused op: the same line and a later one find it whole.
+        (
+            r#"{"on":"t","do":[{"slice":[1,3]},{"text":true},{"slice":[0,9]},{"slice":[0,2]}]}"#,
+            r#"{"results":[{"text":"bc"},{"text":"abc"},{"error":"out of bounds","utf16":3},{"text":"ab"}]}"#,
+        ),
+        (
+            r#"{"on":"t","do":[{"text":true},{"count":"utf8"}]}"#,
+            r#"{"results":[{"text":"abc"},{"count":3}]}"#,
+        ),
+        // The order of the bounds is that of the offsets as given: both are rounded down to 0 here.
+        (
+            r#"{"on":"g","do":[{"slice":[1,0]},{"slice":[0,1]},{"slice":[1,1]},{"slice":[1,2]},{"text":true}]}"#,
+            r#"{"results":[{"error":"out of bounds","utf16":2},{"text":""},{"text":""},{"text":"😀"},{"text":"😀"}]}"#,
+        ),
         (r#"{"on":"t","do":[]}"#, r#"{"results":[]}"#),
         (
             r#"{"on":"zz","do":[{"at":0}]}"#,
