@@ -1,14 +1,10 @@
 //! References of one slot, retained and released.
 ghost use Rattle.std.specs.Prelude.{◌≡◌};
 
-use crate::pairs::{Anything, LAYOUT, stored};
-use anyhow::Result;
-use slot_table::{Heap, Pass, Ref};
+use crate::owners::{Anything, Work, stored};
+use slot_table::{Pass, Ref};
 use std::alloc::Global;
-use std::rt::Clock;
 use std::thread::{Threads, join_mut};
-use std::time::Instant;
-use text_spec::TextList;
 
 // An owner with a reference of the slot, how many pairs it makes, and how many it has made.
 #[derive(Drop)]
@@ -33,82 +29,59 @@ fn work<'h>(sharer: &mut Sharer<'h>)
     }
 }
 
-fn alone(mut pass: Pass<'_, Anything>, rounds: u32) -> u64 {
-    let Some(held) = stored(&mut pass, 7) else {
-        return 0;
-    };
-    let mut sharer = Sharer {
-        pass,
-        held,
-        rounds,
-        pairs: 0,
-    };
-    work(&mut sharer);
-    sharer.pairs
-}
+/// A reference of one slot is retained, and the new one released.
+pub(crate) struct Copies;
 
-fn together<'h, R: Threads>(
-    rt: &R,
-    alloc: Global,
-    mut pass: Pass<'h, Anything>,
-    rounds: u32,
-) -> u64 {
-    let Some(mut held) = stored(&mut pass, 7) else {
-        return 0;
-    };
-    let Some(second) = held.retain(&mut pass) else {
-        return 0;
-    };
-    if pass.credits() < 2 {
-        return 0;
+impl Work for Copies {
+    fn words() -> (&'static str, &'static str) {
+        ("one slot retained and released ", " times")
     }
-    let Ok(other) = pass.split(alloc, 0, 1) else {
-        return 0;
-    };
-    let mut one = Sharer {
-        pass,
-        held,
-        rounds,
-        pairs: 0,
-    };
-    let mut two = Sharer {
-        pass: other,
-        held: second,
-        rounds,
-        pairs: 0,
-    };
-    join_mut(rt, &mut || work(&mut one), &mut || work(&mut two));
-    one.pairs.wrapping_add(two.pairs)
-}
 
-/// Retains and releases one slot so many times with one owner.
-pub(crate) fn one_owner(
-    rt: &(impl Print + Eprint + Clock),
-    alloc: Global,
-    rounds: u32,
-) -> Result<()> {
-    if let Ok((heap, whole)) = Heap::<Anything>::open(alloc, &LAYOUT, &TextList::new(alloc)) {
-        let start = Instant::now(rt)?;
-        let pairs = alone(heap.pass(whole), rounds);
-        let milliseconds = start.elapsed(rt)?.as_millis();
-        println!(rt; "one owner: one slot retained and released {pairs} times")?;
-        eprintln!(rt; "{milliseconds} ms")?;
+    fn alone(mut pass: Pass<'_, Anything>, rounds: u32) -> u64 {
+        let Some(held) = stored(&mut pass, 7) else {
+            return 0;
+        };
+        let mut sharer = Sharer {
+            pass,
+            held,
+            rounds,
+            pairs: 0,
+        };
+        work(&mut sharer);
+        sharer.pairs
     }
-    Ok(())
-}
 
-/// Retains and releases one slot so many times with each of two owners, in threads.
-pub(crate) fn two_owners(
-    rt: &(impl Print + Eprint + Clock + Threads),
-    alloc: Global,
-    rounds: u32,
-) -> Result<()> {
-    if let Ok((heap, whole)) = Heap::<Anything>::open(alloc, &LAYOUT, &TextList::new(alloc)) {
-        let start = Instant::now(rt)?;
-        let pairs = together(rt, alloc, heap.pass(whole), rounds);
-        let milliseconds = start.elapsed(rt)?.as_millis();
-        println!(rt; "two owners: one slot retained and released {pairs} times")?;
-        eprintln!(rt; "{milliseconds} ms")?;
+    fn together<R: Threads>(
+        rt: &R,
+        alloc: Global,
+        mut pass: Pass<'_, Anything>,
+        rounds: u32,
+    ) -> u64 {
+        let Some(mut held) = stored(&mut pass, 7) else {
+            return 0;
+        };
+        let Some(second) = held.retain(&mut pass) else {
+            return 0;
+        };
+        if pass.credits() < 2 {
+            return 0;
+        }
+        let Ok(other) = pass.split(alloc, 0, 1) else {
+            return 0;
+        };
+        let mut one = Sharer {
+            pass,
+            held,
+            rounds,
+            pairs: 0,
+        };
+        let mut two = Sharer {
+            pass: other,
+            held: second,
+            rounds,
+            pairs: 0,
+        };
+        join_mut(rt, &mut || work(&mut one), &mut || work(&mut two));
+        one.pairs.wrapping_add(two.pairs)
     }
-    Ok(())
 }

@@ -1,14 +1,10 @@
 //! References of one slot that look for its side.
 ghost use Rattle.std.specs.Prelude.{◌≡◌, IfSome};
 
-use crate::pairs::{Anything, LAYOUT, stored};
-use anyhow::Result;
-use slot_table::{Heap, Pass, Ref};
+use crate::owners::{Anything, Work, stored};
+use slot_table::{Pass, Ref};
 use std::alloc::Global;
-use std::rt::Clock;
 use std::thread::{Threads, join_mut};
-use std::time::Instant;
-use text_spec::TextList;
 
 // An owner of a reference, how often it looks, and how often it has found a side.
 #[derive(Drop)]
@@ -39,68 +35,50 @@ fn sided<'h>(pass: &mut Pass<'h, Anything>) -> Option<Ref<'h, Anything>>
     Some(held)
 }
 
-fn alone(mut pass: Pass<'_, Anything>, rounds: u32) -> u64 {
-    let Some(held) = sided(&mut pass) else {
-        return 0;
-    };
-    let mut looker = Looker {
-        held,
-        rounds,
-        found: 0,
-    };
-    work(&mut looker);
-    looker.found
-}
+/// A reference of one slot looks for its side.
+pub(crate) struct Looks;
 
-fn together<'h, R: Threads>(rt: &R, mut pass: Pass<'h, Anything>, rounds: u32) -> u64 {
-    let Some(mut held) = sided(&mut pass) else {
-        return 0;
-    };
-    let Some(second) = held.retain(&mut pass) else {
-        return 0;
-    };
-    let mut one = Looker {
-        held,
-        rounds,
-        found: 0,
-    };
-    let mut two = Looker {
-        held: second,
-        rounds,
-        found: 0,
-    };
-    join_mut(rt, &mut || work(&mut one), &mut || work(&mut two));
-    one.found.wrapping_add(two.found)
-}
-
-/// Looks so many times with one owner.
-pub(crate) fn one_owner(
-    rt: &(impl Print + Eprint + Clock),
-    alloc: Global,
-    rounds: u32,
-) -> Result<()> {
-    if let Ok((heap, whole)) = Heap::<Anything>::open(alloc, &LAYOUT, &TextList::new(alloc)) {
-        let start = Instant::now(rt)?;
-        let found = alone(heap.pass(whole), rounds);
-        let milliseconds = start.elapsed(rt)?.as_millis();
-        println!(rt; "one owner: a side found {found} times")?;
-        eprintln!(rt; "{milliseconds} ms")?;
+impl Work for Looks {
+    fn words() -> (&'static str, &'static str) {
+        ("a side found ", " times")
     }
-    Ok(())
-}
 
-/// Looks so many times with each of two owners of one slot, in threads.
-pub(crate) fn two_owners(
-    rt: &(impl Print + Eprint + Clock + Threads),
-    alloc: Global,
-    rounds: u32,
-) -> Result<()> {
-    if let Ok((heap, whole)) = Heap::<Anything>::open(alloc, &LAYOUT, &TextList::new(alloc)) {
-        let start = Instant::now(rt)?;
-        let found = together(rt, heap.pass(whole), rounds);
-        let milliseconds = start.elapsed(rt)?.as_millis();
-        println!(rt; "two owners: a side found {found} times")?;
-        eprintln!(rt; "{milliseconds} ms")?;
+    fn alone(mut pass: Pass<'_, Anything>, rounds: u32) -> u64 {
+        let Some(held) = sided(&mut pass) else {
+            return 0;
+        };
+        let mut looker = Looker {
+            held,
+            rounds,
+            found: 0,
+        };
+        work(&mut looker);
+        looker.found
     }
-    Ok(())
+
+    fn together<R: Threads>(
+        rt: &R,
+        _alloc: Global,
+        mut pass: Pass<'_, Anything>,
+        rounds: u32,
+    ) -> u64 {
+        let Some(mut held) = sided(&mut pass) else {
+            return 0;
+        };
+        let Some(second) = held.retain(&mut pass) else {
+            return 0;
+        };
+        let mut one = Looker {
+            held,
+            rounds,
+            found: 0,
+        };
+        let mut two = Looker {
+            held: second,
+            rounds,
+            found: 0,
+        };
+        join_mut(rt, &mut || work(&mut one), &mut || work(&mut two));
+        one.found.wrapping_add(two.found)
+    }
 }

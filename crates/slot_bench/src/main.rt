@@ -9,20 +9,25 @@ mod copies;
 mod histories;
 mod listed;
 mod looks;
+mod owners;
 mod pairs;
 mod places;
 
 use anyhow::Result;
+use copies::Copies;
+use looks::Looks;
+use owners::{one_owner, two_owners};
+use pairs::Pairs;
 
 fn main(rt: HostRuntime) -> Result<()> {
     histories::check(&rt, rt.alloc(), 100_000)?;
     histories::check(&rt, rt.alloc(), 200_000)?;
-    pairs::one_owner(&rt, rt.alloc(), 10_000_000)?;
-    pairs::two_owners(&rt, rt.alloc(), 5_000_000)?;
-    copies::one_owner(&rt, rt.alloc(), 10_000_000)?;
-    copies::two_owners(&rt, rt.alloc(), 5_000_000)?;
-    looks::one_owner(&rt, rt.alloc(), 10_000_000)?;
-    looks::two_owners(&rt, rt.alloc(), 5_000_000)?;
+    one_owner::<Pairs>(&rt, rt.alloc(), 10_000_000)?;
+    two_owners::<Pairs>(&rt, rt.alloc(), 5_000_000)?;
+    one_owner::<Copies>(&rt, rt.alloc(), 10_000_000)?;
+    two_owners::<Copies>(&rt, rt.alloc(), 5_000_000)?;
+    one_owner::<Looks>(&rt, rt.alloc(), 10_000_000)?;
+    two_owners::<Looks>(&rt, rt.alloc(), 5_000_000)?;
     places::ask(&rt, rt.alloc(), 1_000_000, true)?;
     places::ask(&rt, rt.alloc(), 10_000, true)?;
     places::ask(&rt, rt.alloc(), 10_000, false)
