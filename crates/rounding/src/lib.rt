@@ -8,6 +8,8 @@
 #![tactic(auto)]
 
 mod floors;
+#[cfg(test)]
+mod part;
 mod place;
 mod resolution;
 #[cfg(test)]

@@ -1,6 +1,7 @@
 //! What no clause says: what the calls answer at texts written out by hand, over storage of either encoding.
 ghost use Rattle.std.specs.Prelude.{◌≡◌};
 
+use crate::part::Part;
 use crate::{resolve, scalar_floor, utf8_floor, utf16_floor};
 use index_words::Index;
 use std::alloc::Global;
@@ -8,12 +9,12 @@ use std::marker::Brand;
 use std::process::Abort;
 use std::sync::ledger::{Blank, Ledger};
 use text_spec::{Encoding, OutOfMemory};
-use word_units::{OutOfBounds, Steps, VecText};
+use word_units::{OutOfBounds, Steps, Text, VecText};
 
 /// The words of an index once it is resolved, and of its floors: scalars, UTF-16, UTF-8.
 type Answer = Result<(u64, u64, u64, u64), OutOfBounds>;
 
-fn answer_with<L: Ledger>(t: &mut VecText, i: Index, blank: Blank) -> Answer
+fn answer_with<T: Text, L: Ledger>(t: &mut T, i: Index, blank: Blank) -> Answer
     requires name { blank.name ≡ L.name }
     requires parts { blank.parts ≡ L.parts }
     requires one { blank.parts ≡ 1 }
@@ -26,14 +27,14 @@ fn answer_with<L: Ledger>(t: &mut VecText, i: Index, blank: Blank) -> Answer
     Ok((found.bits(), scalar.bits(), utf16.bits(), utf8.bits()))
 }
 
-fn answer(t: &mut VecText, i: Index) -> Answer {
-    answer_with::<Brand>(t, i, Blank::new(1))
+fn answer<T: Text>(t: &mut T, i: Index) -> Answer {
+    answer_with::<T, Brand>(t, i, Blank::new(1))
 }
 
 /// What is asked of an index word, and answered.
 type Row = (u64, Answer);
 
-fn rows_are(rt: &impl Abort, t: &mut VecText, rows: &[Row], text: &str) {
+fn rows_are<T: Text>(rt: &impl Abort, t: &mut T, rows: &[Row], text: &str) {
     for (word, wanted) in rows {
         match Index::check(*word) {
             Some(index) => assert_eq!(rt; answer(t, index), *wanted, "{text}: {word}"),
@@ -285,5 +286,69 @@ fn offsets_are_read_behind_words_of_ascii(rt: HostRuntime) -> Result<(), OutOfMe
     let second = word_of(16, 1, 4);
     let row = (word_of(17, 0, 8), Ok((second, first, second, first)));
     rows_are(&rt, &mut t, &[row], text);
+    Ok(())
+}
+
+fn part_with<L: Ledger>(all: VecText, low: u64, high: u64, blank: Blank) -> Option<Part>
+    requires name { blank.name ≡ L.name }
+    requires parts { blank.parts ≡ L.parts }
+    requires one { blank.parts ≡ 1 }
+{
+    let mut steps = Steps::<L>::from_blank(blank);
+    Part::new(all, low, high, &mut steps)
+}
+
+/// The scalars of a text from code unit `low` of its storage to code unit `high`.
+fn part(all: VecText, low: u64, high: u64) -> Option<Part> {
+    part_with::<Brand>(all, low, high, Blank::new(1))
+}
+
+/// "é😀" as a part of "aé😀😀": before it and behind it, and at its end, where the storage goes on with a wide scalar.
+#[test]
+fn indices_outside_of_a_part_are_refused(rt: HostRuntime) -> Result<(), OutOfMemory> {
+    let all = VecText::from_utf8(rt.alloc(), "aé😀😀")?.expect(&rt, "eleven bytes");
+    let mut t = part(all, 1, 7).expect(&rt, "two boundaries");
+    rows_are(
+        &rt,
+        &mut t,
+        &[
+            (0, out_of(0, 1, 7)),
+            (4, out_of(0, 1, 7)),
+            (12, out_of(0, 1, 7)),
+            (8, out_of(0, 1, 4)),
+            (65540, Ok((65540, 65541, 65541, 65541))),
+            (65544, Ok((65541, 65541, 65541, 65541))),
+            (196616, Ok((212996, 196613, 212996, 196613))),
+            (262152, Ok((458757, 458757, 458757, 458757))),
+            (475140, Ok((475140, 458757, 458757, 458757))),
+            (524288, out_of(8, 1, 7)),
+            (524292, out_of(8, 1, 7)),
+            (524300, out_of(8, 1, 7)),
+            (327688, out_of(5, 1, 4)),
+        ],
+        "a part in UTF-8",
+    );
+    let units = [0x61, 0xE9, 0xD83D, 0xDE00, 0xD83D, 0xDE00];
+    let all = VecText::from_utf16(rt.alloc(), &units)?.expect(&rt, "six units");
+    let mut t = part(all, 1, 4).expect(&rt, "two boundaries");
+    rows_are(
+        &rt,
+        &mut t,
+        &[
+            (0, out_of(0, 1, 4)),
+            (8, out_of(0, 1, 4)),
+            (12, out_of(0, 1, 4)),
+            (4, out_of(0, 1, 7)),
+            (65540, Ok((65545, 65545, 65545, 65545))),
+            (327684, Ok((163848, 131081, 131081, 163848))),
+            (458756, Ok((262153, 262153, 262153, 262153))),
+            (278536, Ok((278536, 262153, 262153, 262153))),
+            (327680, out_of(5, 1, 4)),
+            (327688, out_of(5, 1, 4)),
+            (327692, out_of(5, 1, 4)),
+            (524292, out_of(8, 1, 7)),
+        ],
+        "a part in UTF-16",
+    );
     Ok(())
 }
