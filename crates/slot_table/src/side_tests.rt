@@ -126,7 +126,7 @@ fn race_once<'h, R: Threads>(
 {
     let mut held = stored(pass, 7)?;
     let copy = held.retain(pass)?;
-    // A thread takes its time to start, so the second owner begins later in each round of a hundred: both come first in some.
+    // A thread takes its time to start, so the second owner waits longer and longer over a hundred rounds: each comes first in some.
     let mut one = ready(alloc, pass, held, round as u64 * 2, 0)?;
     let mut other = ready(alloc, pass, copy, round as u64 * 2 + 1, round % 100 * 400)?;
     join_mut(rt, &mut || race(&mut one), &mut || race(&mut other));
