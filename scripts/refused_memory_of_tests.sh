@@ -17,7 +17,7 @@ while true; do
     exit 1
   fi
   refused=$(grep -c '^test .* FAILED$' <<<"$report" || true)
-  wanting=$(grep -c '^ *Error: .*OutOfMemory' <<<"$report" || true)
+  wanting=$(grep -Eic '^ *error: .*(memory|alloc)' <<<"$report" || true)
   if [ "$refused" != "$wanting" ]; then
     echo "$report" >&2
     echo "$crate: allocation $number: a test ended otherwise than by want of memory" >&2
