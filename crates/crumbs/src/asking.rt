@@ -34,6 +34,7 @@ fn last_before<T: Text, L: Ledger>(t: &mut T, i: Index, last: u64, steps: &mut S
     ensures after { result < last → place_of i < place_of (index16 (T.whole t.old) ((result + 1) * T.STRIDE)) }
     ensures kept { t.new ≡ t.old }
     ensures cost { (digits : ℕ) → last < 2 ^ digits → steps.new ≤ steps.old + digits }
+    ensures counted { steps.old ≤ steps.new }
 {
     let mut low = 0;
     let mut high = last + 1;
@@ -51,7 +52,7 @@ fn last_before<T: Text, L: Ledger>(t: &mut T, i: Index, last: u64, steps: &mut S
 
 /// The last breadcrumb that isn't after an index, with its UTF-16 offset.
 ///
-/// The text's breadcrumbs are known. Places are compared with their transcoded offsets. At most two words are read, and one more
+/// The text's breadcrumbs are known. Places are compared with their transcoded offsets. Two words are read, and at most one more
 /// for each binary digit of the number of breadcrumbs.
 pub fn near<T: Text, L: Ledger>(t: &mut T, i: Index, steps: &mut Steps<L>) -> (u64, Index)
     requires known { T.knows_crumbs t.old ≡ true }
@@ -59,6 +60,7 @@ pub fn near<T: Text, L: Ledger>(t: &mut T, i: Index, steps: &mut Steps<L>) -> (u
     ensures last { IsLastCrumb (T.whole t.old) T.STRIDE i result.0 result.1 }
     ensures kept { t.new ≡ t.old }
     ensures cost { (digits : ℕ) → size16 (T.whole t.old) / T.STRIDE < 2 ^ digits → steps.new ≤ steps.old + 2 + digits }
+    ensures counted { steps.old + 2 ≤ steps.new }
 {
     let stride = t.stride() as u64;
     let last = length16(t, steps) / stride;

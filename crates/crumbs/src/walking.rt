@@ -18,7 +18,7 @@ use word_units::{OutOfBounds, Steps, Text, pass_scalar};
 
 /// The index of UTF-16 offset `o`, by a walk from the scalar boundary `from`, which has `units` units before it.
 ///
-/// At most two words a unit between them are read.
+/// At most two words a unit between them are read, and at least one for two units.
 fn walk_to_offset<T: Text, L: Ledger>(
     t: &mut T,
     from: u64,
@@ -33,6 +33,7 @@ fn walk_to_offset<T: Text, L: Ledger>(
     ensures value { result ≡ index16 (T.whole t.old) o }
     ensures kept { t.new ≡ t.old }
     ensures cost { steps.new ≤ steps.old + 2 * (o - units) }
+    ensures counted { 2 * steps.old + o ≤ 2 * steps.new + units }
 {
     let _count = t.count();
     let mut at = from;
@@ -51,7 +52,7 @@ fn walk_to_offset<T: Text, L: Ledger>(
 /// The index of a UTF-16 offset of a text whose breadcrumbs are known.
 ///
 /// Refused exactly where the offset is above the text's length in UTF-16 units, with the offset, 0 and that length. Two words are
-/// read, and at most two for each unit from the breadcrumb before the offset: twice the stride in all.
+/// read, and for each unit from the breadcrumb before the offset at most two, twice the stride in all, and at least one for two of them.
 pub fn index_of_offset<T: Text, L: Ledger>(
     t: &mut T,
     offset: u64,
@@ -64,6 +65,7 @@ pub fn index_of_offset<T: Text, L: Ledger>(
         × (out ≡ record { position = offset; low = 0; high = size16 (T.whole t.old) })) }
     ensures kept { t.new ≡ t.old }
     ensures cost { steps.new ≤ steps.old + 2 * T.STRIDE }
+    ensures counted { IfOk result (λ i. 2 * steps.old + offset + 3 ≤ 2 * steps.new + offset / T.STRIDE * T.STRIDE) }
 {
     // Where breadcrumbs are known the storage is UTF-8, and the count bounds each sum.
     let _known = t.crumbs_known();
@@ -90,7 +92,7 @@ pub fn index_of_offset<T: Text, L: Ledger>(
 /// The scalar that covers byte `p`, by a walk from the scalar boundary `from`, which has `units` units before it: where it begins,
 /// how many units lie before it, and how many it takes, which is 0 at the end.
 ///
-/// At most two words a scalar are read, its own too.
+/// At most two words a scalar are read, its own too, and at least one for each scalar before it.
 fn scalar_over<T: Text, L: Ledger>(
     t: &mut T,
     from: u64,
@@ -105,6 +107,7 @@ fn scalar_over<T: Text, L: Ledger>(
     ensures covers { Covers (T.whole t.old) p result.0 result.1 result.2 }
     ensures kept { t.new ≡ t.old }
     ensures cost { steps.new + 2 * down len_utf8 (T.whole t.old) from ≤ steps.old + 2 * down len_utf8 (T.whole t.old) p + 2 }
+    ensures counted { (steps.old ≤ steps.new) × (steps.old + down len_utf8 (T.whole t.old) result.0 ≤ steps.new + down len_utf8 (T.whole t.old) from) }
 {
     let count = t.count();
     let mut at = from;
@@ -132,6 +135,7 @@ pub fn offset_of_index<T: Text, L: Ledger>(t: &mut T, i: Index, steps: &mut Step
         (other_floor len_utf8 len_utf16 (T.whole t.old) (size_in Utf8 (T.whole t.old)) (index_place i)) }
     ensures kept { t.new ≡ t.old }
     ensures cost { (digits : ℕ) → size16 (T.whole t.old) / T.STRIDE < 2 ^ digits → steps.new ≤ steps.old + 2 * T.STRIDE + 2 + digits }
+    ensures counted { steps.old + 2 ≤ steps.new }
 {
     let _known = t.crumbs_known();
     let _count = t.count();

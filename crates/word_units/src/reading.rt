@@ -35,6 +35,7 @@ pub(crate) fn byte_word_behind<T: Text, L: Ledger>(
     ensures value { result ≡ slice_index (T.words t.old) (q / 8) }
     ensures kept { t.new ≡ t.old }
     ensures cost { steps.new ≤ steps.old + 1 }
+    ensures counted { steps.old ≤ steps.new }
 {
     if q / 8 == p / 8 {
         near
@@ -68,6 +69,7 @@ fn raw_unit_or_zero<T: Text, L: Ledger>(
     ensures value { result ≡ slice_index (units_of (T.words t.old) (size_in Utf16 (T.whole t.old))) q }
     ensures kept { t.new ≡ t.old }
     ensures cost { steps.new ≤ steps.old + 1 }
+    ensures counted { steps.old ≤ steps.new }
 {
     if q >= t.count() {
         return 0;
@@ -96,6 +98,7 @@ pub(crate) fn other_half<T: Text, L: Ledger>(
     ensures none { 0xDC00 ≤ unit → unit < 0xE000 → p ≡ 0 → result ≡ 0 }
     ensures kept { t.new ≡ t.old }
     ensures cost { steps.new ≤ steps.old + 1 }
+    ensures counted { steps.old ≤ steps.new }
 {
     if is_high_half(unit) {
         return raw_unit_or_zero(t, near, p, p + 1, steps);

@@ -50,7 +50,7 @@ fn units_of_width(width: u32) -> u64
 /// Where what is passed from the boundary `at` on ends, how many code units of the other encoding it takes, and how many scalars it is.
 ///
 /// It is one scalar or, where `most` is at least 8, eight scalars of ASCII that fill a word of UTF-8. `at` is a scalar boundary of
-/// the storage below its end, and `at + most` isn't past that, in code units. One word is read, and in UTF-16 storage at most two.
+/// the storage below its end, and `at + most` isn't past that, in code units. One word is read, and in UTF-16 storage one or two.
 pub fn pass_run<T: Text, L: Ledger>(
     t: &mut T,
     at: u64,
@@ -63,6 +63,7 @@ pub fn pass_run<T: Text, L: Ledger>(
     ensures passes { PassesRun (T.storage t.old) (T.whole t.old) at most result.0 result.1 result.2 }
     ensures kept { t.new ≡ t.old }
     ensures cost { steps.new ≤ steps.old + 2 }
+    ensures counted { steps.old < steps.new }
     ensures bytes { T.storage t.old ≡ Utf8 → steps.new ≡ steps.old + 1 }
 {
     match t.encoding() {

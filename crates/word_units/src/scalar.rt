@@ -21,6 +21,7 @@ fn code8_at<T: Text, L: Ledger>(t: &mut T, p: u64, steps: &mut Steps<L>) -> (u32
     ensures scalar { IsScalar result.0 }
     ensures kept { t.new ≡ t.old }
     ensures cost { steps.new ≤ steps.old + 2 }
+    ensures counted { steps.old < steps.new }
 {
     let _count = t.count();
     let near = t.word(p / 8, steps);
@@ -44,6 +45,7 @@ fn code16_at<T: Text, L: Ledger>(t: &mut T, p: u64, steps: &mut Steps<L>) -> (u3
     ensures scalar { IsScalar result.0 }
     ensures kept { t.new ≡ t.old }
     ensures cost { steps.new ≤ steps.old + 2 }
+    ensures counted { steps.old < steps.new }
 {
     let _count = t.count();
     let word = t.word(p / 4, steps);
@@ -61,6 +63,7 @@ fn code_at<T: Text, L: Ledger>(t: &mut T, p: u64, steps: &mut Steps<L>) -> (u32,
     ensures scalar { IsScalar result.0 }
     ensures kept { t.new ≡ t.old }
     ensures cost { steps.new ≤ steps.old + 2 }
+    ensures counted { steps.old < steps.new }
 {
     match t.encoding() {
         Encoding::Utf8 => code8_at(t, p, steps),
@@ -70,7 +73,7 @@ fn code_at<T: Text, L: Ledger>(t: &mut T, p: u64, steps: &mut Steps<L>) -> (u32,
 
 /// The scalar that begins at `p`, and how many code units of the storage it takes: 1 to 4 in UTF-8, 1 or 2 in UTF-16.
 ///
-/// `p` is a scalar boundary of the storage below its end, in code units. At most two words are read.
+/// `p` is a scalar boundary of the storage below its end, in code units. One or two words are read.
 pub fn scalar_at<T: Text, L: Ledger>(t: &mut T, p: u64, steps: &mut Steps<L>) -> (char, u32)
     requires inside { p < size_in (T.storage t.old) (T.whole t.old) }
     requires boundary { start (width_in (T.storage t.old)) (T.whole t.old) (down (width_in (T.storage t.old)) (T.whole t.old) p) ≡ p }
@@ -78,6 +81,7 @@ pub fn scalar_at<T: Text, L: Ledger>(t: &mut T, p: u64, steps: &mut Steps<L>) ->
     ensures width { result.1 ≡ width_in (T.storage t.old) (slice_index (T.whole t.old) (down (width_in (T.storage t.old)) (T.whole t.old) p)) }
     ensures kept { t.new ≡ t.old }
     ensures cost { steps.new ≤ steps.old + 2 }
+    ensures counted { steps.old < steps.new }
 {
     let (code, width) = code_at(t, p, steps);
     match char::from_u32(code) {

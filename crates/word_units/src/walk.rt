@@ -21,13 +21,14 @@ fn other_len(encoding: Encoding, scalar: char) -> u32
 
 /// Where the scalar that begins at `at` ends, and how many code units of the other encoding it takes: 1 to 4.
 ///
-/// `at` is a scalar boundary of the storage below its end, in code units. At most two words are read.
+/// `at` is a scalar boundary of the storage below its end, in code units. One or two words are read.
 pub fn pass_scalar<T: Text, L: Ledger>(t: &mut T, at: u64, steps: &mut Steps<L>) -> (u64, u64)
     requires inside { at < size_in (T.storage t.old) (T.whole t.old) }
     requires boundary { start (width_in (T.storage t.old)) (T.whole t.old) (down (width_in (T.storage t.old)) (T.whole t.old) at) ≡ at }
     ensures passes { Passes (T.storage t.old) (T.whole t.old) at result.0 result.1 }
     ensures kept { t.new ≡ t.old }
     ensures cost { steps.new ≤ steps.old + 2 }
+    ensures counted { steps.old < steps.new }
 {
     let _count = t.count();
     let encoding = t.encoding();

@@ -14,6 +14,7 @@ halves-init g c =
       within = omega arith;
       before = omega (arith, ap (λ m. place_of (index16 b m)) none, index16-zero b);
       after = λ h. absurd (omega arith);
+      counted = omega arith;
       cost = λ d h. (d, omega arith, omega arith);
     }
 
@@ -27,6 +28,7 @@ halves-preserved-then-le g c =
       within = l.invariant.within;
       before = subst (λ n. place_of n ≤ place_of c.args.i) (there g c) (le_told _ _ c.if-le.ensures);
       after = l.invariant.after;
+      counted = omega (arith, c.crumb-there.ensures.cost, l.invariant.counted);
       cost = λ digits h.
           let e = l.invariant.cost digits h in
           let f = halved (l.high - l.low) (l.high - middle) e.0 l.steps _ (omega arith) e.1 (omega arith) e.2 in
@@ -46,6 +48,7 @@ halves-preserved g c =
       within = omega arith;
       before = l.invariant.before;
       after = λ h. subst (λ n. place_of c.args.i < place_of n) (there g c) (gt_told _ _ c.if-le.ensures);
+      counted = omega (arith, c.crumb-there.ensures.cost, l.invariant.counted);
       cost = λ digits h.
           let e = l.invariant.cost digits h in
           let f = halved (l.high - l.low) (middle - l.low) e.0 l.steps _ (omega arith) e.1 (omega arith) e.2 in

@@ -30,3 +30,16 @@ walk_to_offset-requires-clause-order g c =
     let e : Begun b (c.args.offset / s * s) c.args.offset word =
     begun_by b n s c.args.offset word c.stride-stride.ensures c.if-begun-offset.false (omega (arith, c.if-offset-high.false, c.length16-high.ensures.value)) is in
     omega (arith, e.order, c.from-past.ensures, c.transcoded.ensures.value)
+
+pub returns-clause-counted : goal.returns-clause-counted
+returns-clause-counted g c =
+    let b = g.T.Text.whole c.args.t.now in
+    let s = c.stride-stride.result in
+    let word = c.for_offset-crumb.result in
+    let n = g.T.Text.STRIDE in
+    let is : word ≡ index16 b (c.args.offset / n * n) = c.for_offset-crumb.ensures.value ∙ ap (λ t. index16 (g.T.Text.whole t) (c.args.offset / n * n)) c.length16-high.ensures.kept in
+    let e : Begun b (c.args.offset / s * s) c.args.offset word =
+    begun_by b n s c.args.offset word c.stride-stride.ensures c.if-begun-offset.false (omega (arith, c.if-offset-high.false, c.length16-high.ensures.value)) is in
+    let past : c.from-past.result ≡ transcoded_of word = c.from-past.ensures ∙ c.transcoded.ensures.value in
+    let same : c.args.offset / s * s ≡ c.args.offset / n * n = ap (λ k. c.args.offset / k * k) c.stride-stride.ensures in
+    omega (arith, c.walk_to_offset.ensures.counted, c.for_offset-crumb.ensures.cost, c.length16-high.ensures.cost, e.past_few, past, same)

@@ -24,6 +24,7 @@ scalars-init g c =
       order = c.requires.order;
       few = omega (arith, c.requires.begun.boundary, c.requires.begun.offset, start16-le b (down len_utf8 b c.args.from));
       cost = omega arith;
+      counted = (omega arith, omega arith);
     }
 
 pub scalars-preserved : goal.scalars-preserved
@@ -38,6 +39,7 @@ scalars-preserved g c =
       order = c.if-next-p.false;
       few = omega (arith, s.reaches.boundary, s.reaches.offset, start16-le b (down len_utf8 b c.pass_scalar-next.result.0));
       cost = omega (arith, c.pass_scalar-next.ensures.cost, l.invariant.cost, s.number);
+      counted = (omega (arith, c.pass_scalar-next.ensures.counted, l.invariant.counted.0), omega (arith, c.pass_scalar-next.ensures.counted, l.invariant.counted.1, s.number));
     }
 
 pub returns-then-next-p-clause-covers : goal.returns-then-next-p-clause-covers

@@ -15,6 +15,7 @@ invariant-scalars g l =
       order : l.at ≤ l.p;
       few : l.reached ≤ l.at;
       cost : l.steps + 2 * down len_utf8 b l.from ≤ l.fn.steps + 2 * down len_utf8 b l.at;
+      counted : (l.fn.steps ≤ l.steps) × (l.fn.steps + down len_utf8 b l.at ≤ l.steps + down len_utf8 b l.from);
     }
 
 abbrev pub decreases-scalars : goal.decreases-scalars

@@ -40,6 +40,7 @@ scalars-preserved g c =
       here = s.reaches;
       order = c.if-reached-more.false;
       cost = omega (arith, c.pass_scalar-next.ensures.cost, l.invariant.cost, s.some);
+      counted = omega (arith, c.pass_scalar-next.ensures.counted, l.invariant.counted, s.few);
     }
 
 pub index_of_crumb-requires-2-clause-small : goal.index_of_crumb-requires-2-clause-small
@@ -60,3 +61,11 @@ returns-clause-value g c =
     let l = c.scalars in
     let all : l.reached ≡ c.args.o = omega (arith, l.invariant.order) in
     c.index_of_crumb-2.ensures ∙ index_here b l.at l.reached l.invariant.here (omega (arith, c.requires.inside)) ∙ ap (index16 b) all
+
+pub returns-then-reached-more-clause-counted : goal.returns-then-reached-more-clause-counted
+returns-then-reached-more-clause-counted g c =
+    let b = g.T.Text.whole c.args.t.now in
+    let l = c.scalars in
+    let p = passed g c.args.t.now _ l.at _ _ c.requires.storage l.invariant.same c.pass_scalar-next.ensures.passes in
+    let s = stepped8 b l.at l.reached l.invariant.here _ _ p in
+    omega (arith, c.pass_scalar-next.ensures.counted, l.invariant.counted, s.few, c.if-reached-more.true)

@@ -11,6 +11,7 @@ invariant-scalars g l =
       here : Reaches Utf8 (g.T.Text.whole l.fn.t) l.at l.reached;
       order : l.reached ≤ l.o;
       cost : l.steps + 2 * (l.o - l.reached) ≤ l.fn.steps + 2 * (l.o - l.units);
+      counted : 2 * l.fn.steps + l.reached ≤ 2 * l.steps + l.units;
     }
 
 abbrev pub decreases-scalars : goal.decreases-scalars
