@@ -46,6 +46,7 @@ pub(crate) fn index_from_crumb<T: Text, L: Ledger>(
     }) }
     ensures kept { t.new ≡ t.old }
     ensures cost { steps.new ≤ steps.old + 2 * T.STRIDE }
+    ensures counted { IfOk result (λ r. 2 * steps.old + offset + 3 ≤ 2 * steps.new + offset / T.STRIDE * T.STRIDE) }
 {
     let _known = t.crumbs_known();
     match crumbs::index_of_offset(t, offset, steps) {
@@ -67,6 +68,7 @@ pub(crate) fn offset_from_crumb<T: Text, L: Ledger>(
     ensures refused { IfErr result (IsOutOfRange (Units Utf16) (T.storage t.old) (T.whole t.old) (T.first t.old) (T.end t.old) i) }
     ensures kept { t.new ≡ t.old }
     ensures cost { (digits : ℕ) → size16 (T.whole t.old) / T.STRIDE < 2 ^ digits → steps.new ≤ steps.old + 2 * T.STRIDE + 2 + digits }
+    ensures counted { IfOk result (λ offset. steps.old + 2 ≤ steps.new) }
 {
     let _known = t.crumbs_known();
     let position = i.position();

@@ -188,8 +188,8 @@ pub fn distance<T: Text, L: Ledger>(
 /// The index of the code unit with an offset, which may be the number of code units.
 ///
 /// Refused exactly where the offset is above that number, with the offset, 0 and that number. Where the text is marked ASCII no word
-/// is read. Where breadcrumbs are known, at most twice as many as their distance is; else in UTF-8 storage at most two a scalar in one
-/// pass up to the code unit, and in UTF-16 storage at most the two beside it.
+/// is read. Where breadcrumbs are known, two and at least one for two code units from the breadcrumb on, at most twice as many as their
+/// distance is; else in UTF-8 storage at most two a scalar in one pass up to the code unit, and in UTF-16 storage at most the two beside it.
 pub fn index_of_offset<T: Text, L: Ledger>(
     t: &mut T,
     offset: u64,
@@ -205,6 +205,8 @@ pub fn index_of_offset<T: Text, L: Ledger>(
     }) }
     ensures kept { t.new ≡ t.old }
     ensures crumbs { T.knows_crumbs t.old ≡ true → 1 ≤ T.STRIDE → steps.new ≤ steps.old + 2 * T.STRIDE }
+    ensures counted { T.knows_crumbs t.old ≡ true → 1 ≤ T.STRIDE → T.marked_ascii t.old ≡ false
+        → IfOk result (λ r. 2 * steps.old + offset + 3 ≤ 2 * steps.new + offset / T.STRIDE * T.STRIDE) }
     ensures pass { T.storage t.old ≡ Utf8 → T.knows_crumbs t.old ≡ false → steps.new ≤ steps.old + 2 * (T.end t.old - T.first t.old) }
     ensures near { T.storage t.old ≡ Utf8 → T.knows_crumbs t.old ≡ false → steps.new ≤ steps.old + 2 * offset }
     ensures own { T.storage t.old ≡ Utf16 → steps.new ≤ steps.old + 2 }
@@ -219,8 +221,8 @@ pub fn index_of_offset<T: Text, L: Ledger>(
 /// The offset of the code unit that an index is rounded down to.
 ///
 /// Refused exactly where `resolve` refuses the index, with its numbers. Where the text is marked ASCII no word is read. Where
-/// breadcrumbs are known and the index is read in bytes, at most two words, one for each binary digit of the number of breadcrumbs, and
-/// twice as many as their distance is; else at most two a scalar in one pass up to the code unit, at most four beside it, and those that
+/// breadcrumbs are known and the index is read in bytes, two words, and at most one for each binary digit of the number of breadcrumbs
+/// and twice as many as their distance is; else at most two a scalar in one pass up to the code unit, at most four beside it, and those that
 /// resolving an index of the other encoding reads.
 pub fn offset_of_index<T: Text, L: Ledger>(
     t: &mut T,
@@ -232,6 +234,8 @@ pub fn offset_of_index<T: Text, L: Ledger>(
     ensures kept { t.new ≡ t.old }
     ensures crumbs { T.knows_crumbs t.old ≡ true → 1 ≤ T.STRIDE → reads_other (T.storage t.old) i ≡ false → (digits : ℕ)
         → size16 (T.whole t.old) / T.STRIDE < 2 ^ digits → steps.new ≤ steps.old + 2 * T.STRIDE + 2 + digits }
+    ensures counted { T.knows_crumbs t.old ≡ true → 1 ≤ T.STRIDE → T.marked_ascii t.old ≡ false → reads_other (T.storage t.old) i ≡ false
+        → IfOk result (λ offset. steps.old + 2 ≤ steps.new) }
     ensures cost { T.knows_crumbs t.old ≡ false → steps.new ≤ steps.old + 2 * length (T.whole t.old) + 2 * (T.end t.old - T.first t.old) + 4 }
     ensures across { reads_other (T.storage t.old) i ≡ true → steps.new ≤ steps.old + 2 * length (T.whole t.old) + 2 * (T.end t.old - T.first t.old) + 4 }
     ensures near { T.knows_crumbs t.old ≡ false → reads_other (T.storage t.old) i ≡ false → steps.new ≤ steps.old + 2 * (T.end t.old - T.first t.old) + 4 }
