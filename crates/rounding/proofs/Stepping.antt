@@ -38,7 +38,7 @@ stepped e b at units to most next more scalars reached passes fits before there 
     let offset : start (other_width e) b (down w b next) ≡ units + more = omega (arith, passes.other, reached.offset) in
     record {
       reaches = record { boundary = passes.boundary; offset = offset };
-      within = ⊎_elim (λ one. omega (arith, passes.boundary, there, start-mono w b (down w b next) (down w b to) (omega (arith, passes.number, one, first)))) (λ run. omega (arith, run.2, run.3, fits)) passes.size;
+      within = ⊎_elim (λ one. omega (arith, passes.boundary, there, start-mono w b (down w b next) (down w b to) (omega (arith, passes.number, one, first)))) (λ run. omega (arith, run.3, fits)) passes.size;
       before = omega (arith, first);
       number = passes.number;
       some = ⊎_elim (λ one. omega (arith, one)) (λ run. omega (arith, run.0)) passes.size;

@@ -20,7 +20,7 @@ use Rattle.unit_views.proofs.Widths.{other_is, start-ones, view_some, start-most
 -- what is passed, once its elements are counted
 run_passing : (view : View) (e : Encoding) (b : List ℕ) (at to room most next units scalars count : ℕ) → PassesRun e b at most next units scalars
     → start (view_width view) b (down (width_in e) b next) ≡ start (view_width view) b (down (width_in e) b at) + count → 1 ≤ count
-    → (scalars ≡ 1) ⊎ ((count ≡ 8) × ((next ≡ at + 8) × (8 ≤ most)))
+    → (scalars ≡ 1) ⊎ ((count ≤ most) × (next ≤ at + most))
     → at + most ≤ to → most ≤ room → start (width_in e) b (down (width_in e) b at) ≡ at → start (width_in e) b (down (width_in e) b to) ≡ to → at < to
     → Passing (width_in e) (view_width view) b at to room next count
 run_passing view e b at to room most next units scalars count p counted some size fits small begins ends before =
@@ -32,16 +32,16 @@ run_passing view e b at to room most next units scalars count p counted some siz
       boundary = p.boundary;
       counted = counted;
       ahead = p.ahead;
-      within = ⊎_elim (λ is. omega (arith, p.boundary, ends, start-mono w b (down w b next) (down w b to) (omega (arith, p.number, is, less)))) (λ is. omega (arith, is.1.0, is.1.1, fits)) size;
+      within = ⊎_elim (λ is. omega (arith, p.boundary, ends, start-mono w b (down w b next) (down w b to) (omega (arith, p.number, is, less)))) (λ is. omega (arith, is.1, fits)) size;
       some = some;
-      one = λ more. ⊎_elim (λ is. ap (start (view_width view) b) {x = suc k} {y = down w b next} (omega (arith, p.number, is)) ∙ counted) (λ is. absurd (omega (arith, more, is.0, is.1.1, small))) size;
+      one = λ more. ⊎_elim (λ is. ap (start (view_width view) b) {x = suc k} {y = down w b next} (omega (arith, p.number, is)) ∙ counted) (λ is. absurd (omega (arith, more, is.0, small))) size;
     }
 
--- eight scalars of ASCII are eight elements
-eight : (units scalars count most next at : ℕ) → (scalars ≡ 1) ⊎ ((scalars ≡ 8) × (units ≡ 8) × (next ≡ at + 8) × (8 ≤ most)) → (count ≡ scalars) ⊎ (count ≡ units)
-    → (scalars ≡ 1) ⊎ ((count ≡ 8) × ((next ≡ at + 8) × (8 ≤ most)))
-eight units scalars count most next at size same =
-    ⊎_elim (λ is. inl is) (λ is. inr (⊎_elim (λ e. omega (arith, e, is.0)) (λ e. omega (arith, e, is.1)) same, (is.2, is.3))) size
+-- several scalars have no more elements than there is room for
+several : (units scalars count most next at : ℕ) → (scalars ≡ 1) ⊎ ((1 ≤ scalars) × (scalars ≤ units) × (units ≤ most) × (next ≤ at + most)) → (count ≡ scalars) ⊎ (count ≡ units)
+    → (scalars ≡ 1) ⊎ ((count ≤ most) × (next ≤ at + most))
+several units scalars count most next at size same =
+    ⊎_elim (λ is. inl is) (λ is. inr (⊎_elim (λ e. omega (arith, e, is.1, is.2)) (λ e. omega (arith, e, is.2)) same, is.3)) size
 
 pub its_units : (encoding e : Encoding) (b : List ℕ) (at next more : ℕ) → is_own (Units encoding) e ≡ false → Passes e b at next more
     → start (width_in encoding) b (suc (down (width_in e) b at)) ≡ start (width_in encoding) b (down (width_in e) b at) + more
@@ -77,7 +77,7 @@ passing_scalars view e b at to room most next units scalars is p fits small begi
     omega (arith, p.number, start-ones b (down w b next) (down-length w b next), start-ones b (down w b at) (down-length w b at)) in
     let some : 1 ≤ scalars = ⊎_elim (λ one. omega (arith, one)) (λ many. omega (arith, many.0)) p.size in
     subst (λ v. Passing w (view_width v) b at to room next scalars) (sym is)
-    (run_passing Scalars e b at to room most next units scalars scalars p counted some (eight units scalars scalars most next at p.size (inl refl)) fits small begins ends before)
+    (run_passing Scalars e b at to room most next units scalars scalars p counted some (several units scalars scalars most next at p.size (inl refl)) fits small begins ends before)
 
 pub passing_units : (view : View) (encoding e : Encoding) (b : List ℕ) (at to room most next units scalars : ℕ) → view ≡ Units encoding → is_own view e ≡ false
     → PassesRun e b at most next units scalars → at + most ≤ to → most ≤ room
@@ -89,7 +89,7 @@ passing_units view encoding e b at to room most next units scalars is other p fi
     let counted : start (width_in encoding) b (down w b next) ≡ start (width_in encoding) b (down w b at) + units =
     ap (λ f. start f b (down w b next)) (sym same) ∙ p.other ∙ ap (λ f. start f b (down w b at) + units) same in
     subst (λ v. Passing w (view_width v) b at to room next units) (sym is)
-    (run_passing (Units encoding) e b at to room most next units scalars units p counted p.some (eight units scalars units most next at p.size (inr refl)) fits small begins ends before)
+    (run_passing (Units encoding) e b at to room most next units scalars units p counted p.some (several units scalars units most next at p.size (inr refl)) fits small begins ends before)
 
 -- the boundary before another
 pub record Back (e : Encoding) (b : List ℕ) (at q : ℕ) : Type 0 where

@@ -84,6 +84,43 @@ one_run e b at most next units p = record {
   size = inl refl;
 }
 
+-- ---- the scalars from the boundary `at` to the boundary `next`, which begin in the word of `at`
+pub record Led (b : List ℕ) (at next units scalars : ℕ) : Type 0 where
+  pub number : down len_utf8 b next ≡ down len_utf8 b at + scalars
+  pub boundary : start len_utf8 b (down len_utf8 b next) ≡ next
+  pub other : start len_utf16 b (down len_utf8 b next) ≡ start len_utf16 b (down len_utf8 b at) + units
+  pub order : at ≤ next
+  pub reach : next ≤ at / 8 * 8 + 11
+  pub few : at + units ≤ next
+  pub more : scalars ≤ units
+  pub some : at < next → 1 ≤ scalars
+
+pub led_none : (b : List ℕ) (at : ℕ) → start len_utf8 b (down len_utf8 b at) ≡ at → Led b at at 0 0
+led_none b at begins = record {
+  number = omega arith;
+  boundary = begins;
+  other = omega arith;
+  order = omega arith;
+  reach = omega arith;
+  few = omega arith;
+  more = omega arith;
+  some = λ h. absurd (omega (arith, h));
+}
+
+pub led_all : (b : List ℕ) (at most next units scalars : ℕ) → Led b at next units scalars → ¬ (next / 8 ≡ at / 8) → at + most ≤ size_in Utf8 b → 11 ≤ most
+    → PassesRun Utf8 b at most next units scalars
+led_all b at most next units scalars l past fits room =
+    let ahead : at < next = ⊎_elim (λ h. h) (λ (h : next ≤ at). let same : next ≡ at = omega (arith, l.order, h) in absurd (past (ap (λ n. n / 8) same))) (cases_lt at next) in
+    record {
+      number = l.number;
+      boundary = l.boundary;
+      other = l.other;
+      ahead = ahead;
+      within = omega (arith, l.reach, fits, room);
+      some = omega (arith, l.some ahead, l.more);
+      size = inr (l.some ahead, l.more, omega (arith, l.few, l.reach, room), omega (arith, l.reach, room));
+    }
+
 module _ (e : Encoding) (ws : List ℕ) (n : ℕ) (b : List ℕ) (is8 : e ≡ Utf8) (long : n ≡ size_in e b) (denotes : denoted_text e ws n ≡ Some b) where
   pub lead_run : (at most word lead width units : ℕ) → at < size_in Utf8 b → start len_utf8 b (down len_utf8 b at) ≡ at
       → word ≡ get_or ws (at / 8) 0 → lead ≡ word / 2 ^ (8 * (at % 8)) % 256
@@ -97,6 +134,24 @@ module _ (e : Encoding) (ws : List ℕ) (n : ℕ) (b : List ℕ) (is8 : e ≡ Ut
       one_run Utf8 b at most (at + width) units
       (passes Utf8 b at (at + width) units inside boundary (ap (λ k. at + k) wide)
       (units_by_width c units (λ h. pair (wide ∙ h)) (λ h. one (omega (arith, wide, h))) told.few))
+
+  -- ---- the scalars that begin in one word
+  pub led_on : (at next units scalars word lead width more : ℕ) → Led b at next units scalars → next / 8 ≡ at / 8 → at + 11 ≤ size_in Utf8 b
+      → word ≡ get_or ws (at / 8) 0 → lead ≡ word / 2 ^ (8 * (next % 8)) % 256
+      → (lead < 128 → width ≡ 1) → (128 ≤ lead → lead < 224 → width ≡ 2) → (224 ≤ lead → lead < 240 → width ≡ 3) → (240 ≤ lead → width ≡ 4)
+      → (width ≡ 4 → more ≡ 2) → (width < 4 → more ≡ 1) → width ≤ 4 → more ≤ width → 1 ≤ more → Led b at (next + width) (units + more) (scalars + 1)
+  led_on at next units scalars word lead width more l near fits here is w1 w2 w3 w4 pair one most within some =
+      let p = lead_run next 0 word lead width more (omega (arith, near, fits)) l.boundary (here ∙ ap (λ k. get_or ws k 0) (sym near)) is w1 w2 w3 w4 pair one in
+      record {
+        number = omega (arith, p.number, l.number);
+        boundary = p.boundary;
+        other = omega (arith, p.other, l.other);
+        order = omega (arith, l.order);
+        reach = omega (arith, near, most);
+        few = omega (arith, l.few, within);
+        more = omega (arith, l.more, some);
+        some = λ h. omega arith;
+      }
 
   -- ---- eight scalars of ASCII
   module _ (at word : ℕ) (fits : at + 8 ≤ size_in Utf8 b) (first : at % 8 ≡ 0) (here : word ≡ get_or ws (at / 8) 0) (none : bit_and word 0x8080808080808080 ≡ 0)
@@ -141,5 +196,5 @@ module _ (e : Encoding) (ws : List ℕ) (n : ℕ) (b : List ℕ) (is8 : e ≡ Ut
           ahead = omega arith;
           within = fits;
           some = omega arith;
-          size = inr (refl, refl, refl, room);
+          size = inr (omega arith, omega arith, room, omega (arith, room));
         }

@@ -5,7 +5,7 @@ use Rattle.text_spec.specs.Offsets.{start, down}
 use Rattle.text_spec.specs.Views.{width_in, other_width, size_in}
 
 -- the `scalars` scalars from the boundary `at` on end at `next` and take `units` code units of the other encoding;
--- they are one, or eight of one unit each in either encoding
+-- they are one, or several that end within `most` code units of the storage and have at most `most` of the other encoding
 pub record PassesRun (encoding : Encoding) (whole : List ℕ) (at most next units scalars : ℕ) : Type 0 where
   pub number : down (width_in encoding) whole next ≡ down (width_in encoding) whole at + scalars
   pub boundary : start (width_in encoding) whole (down (width_in encoding) whole next) ≡ next
@@ -13,4 +13,4 @@ pub record PassesRun (encoding : Encoding) (whole : List ℕ) (at most next unit
   pub ahead : at < next
   pub within : next ≤ size_in encoding whole
   pub some : 1 ≤ units
-  pub size : (scalars ≡ 1) ⊎ ((scalars ≡ 8) × (units ≡ 8) × (next ≡ at + 8) × (8 ≤ most))
+  pub size : (scalars ≡ 1) ⊎ ((1 ≤ scalars) × (scalars ≤ units) × (units ≤ most) × (next ≤ at + most))

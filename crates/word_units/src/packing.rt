@@ -36,6 +36,8 @@ pub(crate) fn width_of_lead(lead: u8) -> u32
     ensures two { 128 ≤ lead → lead < 224 → result ≡ 2 }
     ensures three { 224 ≤ lead → lead < 240 → result ≡ 3 }
     ensures four { 240 ≤ lead → result ≡ 4 }
+    ensures some { 1 ≤ result }
+    ensures most { result ≤ 4 }
 {
     if lead < 128 {
         1

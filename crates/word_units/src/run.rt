@@ -1,4 +1,4 @@
-ghost use Rattle.std.specs.Prelude.{◌≡◌, ◌+◌, ◌<◌, ◌≤◌};
+ghost use Rattle.std.specs.Prelude.{◌≡◌, ◌+◌, ◌/◌, ◌<◌, ◌≤◌, slice_index};
 ghost use Rattle.std.specs.Char.{len_utf8};
 ghost use Rattle.text_spec.specs.declared.encoding.Encoding.TheVariants.{Utf8};
 ghost use Rattle.text_spec.specs.Offsets.{start, down};
@@ -15,7 +15,33 @@ use text_spec::Encoding;
 /// The high bit of each byte of a word: none is set where the eight bytes are ASCII.
 const HIGH_BITS: u64 = 0x8080_8080_8080_8080;
 
-/// What one word of UTF-8 tells: the eight scalars of a word of ASCII, where there is place for them, or else one scalar.
+/// How far the scalars that begin in a word of UTF-8 reach from a place in it, in bytes, at most: the last may end three bytes behind it.
+const REACH: u64 = 11;
+
+/// The scalars that begin in a word of UTF-8 from the boundary `at` on: where the last ends, how many code units of UTF-16 they take, and
+/// how many they are. `word` is the word of `at`.
+fn pass_leads<T: Text>(t: &T, word: u64, at: u64, most: u64) -> (u64, u64, u64)
+    requires encoding { T.storage t.now ≡ Utf8 }
+    requires room { REACH ≤ most }
+    requires fits { at + most ≤ size_in Utf8 (T.whole t.now) }
+    requires boundary { start len_utf8 (T.whole t.now) (down len_utf8 (T.whole t.now) at) ≡ at }
+    requires here { word ≡ slice_index (T.words t.now) (at / 8) }
+    ensures { PassesRun Utf8 (T.whole t.now) at most result.0 result.1 result.2 }
+{
+    let _count = t.count();
+    let mut next = at;
+    let mut units = 0;
+    let mut scalars = 0;
+    'scalars: while next / 8 == at / 8 {
+        let width = width_of_lead(byte_in(word, next));
+        next += width as u64;
+        units += units_of_width(width);
+        scalars += 1;
+    }
+    (next, units, scalars)
+}
+
+/// What one word of UTF-8 tells: the scalars that begin in it, where there is room for them, or else one scalar.
 fn pass_bytes<T: Text, L: Ledger>(
     t: &mut T,
     at: u64,
@@ -35,6 +61,9 @@ fn pass_bytes<T: Text, L: Ledger>(
     if most >= 8 && at % 8 == 0 && word & HIGH_BITS == 0 {
         return (at + 8, 8, 8);
     }
+    if most >= REACH {
+        return pass_leads(t, word, at, most);
+    }
     let width = width_of_lead(byte_in(word, at));
     (at + width as u64, units_of_width(width), 1)
 }
@@ -43,14 +72,17 @@ fn pass_bytes<T: Text, L: Ledger>(
 fn units_of_width(width: u32) -> u64
     ensures pair { width ≡ 4 → result ≡ 2 }
     ensures one { width < 4 → result ≡ 1 }
+    ensures few { 1 ≤ width → result ≤ width }
+    ensures some { 1 ≤ result }
 {
     if width == 4 { 2 } else { 1 }
 }
 
 /// Where what is passed from the boundary `at` on ends, how many code units of the other encoding it takes, and how many scalars it is.
 ///
-/// It is one scalar or, where `most` is at least 8, eight scalars of ASCII that fill a word of UTF-8. `at` is a scalar boundary of
-/// the storage below its end, and `at + most` isn't past that, in code units. One word is read, and in UTF-16 storage one or two.
+/// It is one scalar, or the scalars that begin in a word where they end within `most` code units and have no more of the other encoding.
+/// `at` is a scalar boundary of the storage below its end, and `at + most` isn't past that, in code units. One word is read, and in UTF-16
+/// storage one or two.
 pub fn pass_run<T: Text, L: Ledger>(
     t: &mut T,
     at: u64,

@@ -25,8 +25,8 @@ returns-then-offset-reached-clause-last g c =
     let b = g.T.Text.whole c.args.t.now in
     let passed = run g c.args.t.now c.scalars.t _ _ _ _ _ c.scalars.invariant.same c.pass_run-next.ensures.passes in
     let next = step g c.before in
-    -- eight scalars have eight units, for which there was room
-    let one : c.pass_run-next.result.2 ≡ 1 = ⊎_elim (λ is. is) (λ is. absurd (omega (arith, is.1, is.3, c.min-most.ensures, c.if-offset-reached.true))) passed.size in
+    -- several scalars have no more units than there was room for
+    let one : c.pass_run-next.result.2 ≡ 1 = ⊎_elim (λ is. is) (λ is. absurd (omega (arith, is.2, c.min-most.ensures, c.if-offset-reached.true))) passed.size in
     let there : start (other_width e) b (suc (down (width_in e) b c.scalars.at)) ≡ c.scalars.reached + c.pass_run-next.result.1 =
     ap (start (other_width e) b) {x = suc (down (width_in e) b c.scalars.at)} {y = down (width_in e) b c.pass_run-next.result.0} (omega (arith, passed.number, one)) ∙ next.reaches.offset in
     inr (c.scalars-test.true, omega (arith, there, c.if-offset-reached.true))
