@@ -4,15 +4,18 @@ use lib.Bits.{bit_and, and_block}
 use Rattle.std.proofs.lemmas.Bool.{cases_lt, cond-true, cond-false, lt-ltb, le-ltb}
 use Rattle.std.specs.Char.{len_utf8}
 use Rattle.text_spec.specs.declared.encoding.Encoding.{Encoding}
-use Rattle.text_spec.specs.declared.encoding.Encoding.TheVariants.{Utf8}
+use Rattle.text_spec.specs.declared.encoding.Encoding.TheVariants.{Utf8, Utf16}
 use Rattle.text_spec.specs.Offsets.{len_utf16, start, down}
-use Rattle.text_spec.specs.Packed.{byte_of, denoted_text}
+use Rattle.std.specs.Char.Utf16.{lone_unit_char}
+use Rattle.std.specs.Option.{unwrap_or}
+use Rattle.std.proofs.str.Utf16.{lone_unit_char_low, lone_unit_char_high}
+use Rattle.text_spec.specs.Packed.{byte_of, unit_of, units_of, denoted_text, IsPair}
 use Rattle.text_spec.specs.Views.{size_in}
 use Rattle.text_spec.proofs.Widths.{len16_cases, len8_pair}
 use Rattle.word_units.specs.Running.{PassesRun}
 use Rattle.word_units.specs.Walking.{Passes}
 use Rattle.word_units.proofs.Passing.{passes}
-use Rattle.word_units.proofs.Telling.{told8, width-is}
+use Rattle.word_units.proofs.Telling.{told8, told16, width-is}
 
 -- ---- the high bits of the bytes of a word
 abbrev mask : ℕ → ℕ
@@ -198,3 +201,58 @@ module _ (e : Encoding) (ws : List ℕ) (n : ℕ) (b : List ℕ) (is8 : e ≡ Ut
           some = omega arith;
           size = inr (omega arith, omega arith, room, omega (arith, room));
         }
+
+-- ---- the scalars of a word of UTF-16 that holds no half of a pair
+module _ (e : Encoding) (ws : List ℕ) (n : ℕ) (b : List ℕ) (is16 : e ≡ Utf16) (long : n ≡ size_in e b) (denotes : denoted_text e ws n ≡ Some b) where
+  record PlainTo (at j bytes p : ℕ) : Type 0 where
+    pub number : down len_utf16 b p ≡ down len_utf16 b at + j
+    pub begins : start len_utf16 b (down len_utf16 b p) ≡ p
+    pub bytes_are : start len_utf8 b (down len_utf16 b p) ≡ start len_utf8 b (down len_utf16 b at) + bytes
+
+  plain_on : (at j bytes q p u : ℕ) → PlainTo at j bytes q → q < size_in Utf16 b → p ≡ q + 1 → u ≡ unit_of ws q → (0xD800 ≤ u → 0xE000 ≤ u)
+      → PlainTo at (j + 1) (bytes + len_utf8 u) p
+  plain_on at j bytes q p u before inside is here plain =
+      let us = units_of ws (size_in Utf16 b) in
+      let none : ¬ (IsPair u (get_or us (q + 1) 0)) = λ pair. absurd (omega (arith, plain pair.0, pair.1)) in
+      let alone : u ≡ unwrap_or (lone_unit_char u) 0xFFFD =
+      ⊎_elim (λ low. sym (ap (λ o. unwrap_or o 0xFFFD) (lone_unit_char_low u low))) (λ high. sym (ap (λ o. unwrap_or o 0xFFFD) (lone_unit_char_high u (plain high)))) (cases_lt u 0xD800) in
+      let told = told16 e ws n b q u (get_or us (q + 1) 0) u 1 is16 long denotes inside before.begins here (λ low high. refl) ((λ pair. absurd (none pair)), λ no. (alone, refl)) in
+      let step = passes Utf16 b q p (len_utf8 u) inside before.begins (omega (arith, is, told.1)) (ap len_utf8 told.0) in
+      record {
+        number = omega (arith, step.number, before.number);
+        begins = step.boundary;
+        bytes_are = omega (arith, step.other, before.bytes_are);
+      }
+
+  pub plain_run : (at most word bytes : ℕ) → at + most ≤ size_in Utf16 b → 12 ≤ most → at % 4 ≡ 0 → word ≡ get_or ws (at / 4) 0 → start len_utf16 b (down len_utf16 b at) ≡ at
+      → (0xD800 ≤ word % 65536 → 0xE000 ≤ word % 65536) → (0xD800 ≤ word / 2 ^ 16 % 65536 → 0xE000 ≤ word / 2 ^ 16 % 65536)
+      → (0xD800 ≤ word / 2 ^ 32 % 65536 → 0xE000 ≤ word / 2 ^ 32 % 65536) → (0xD800 ≤ word / 2 ^ 48 % 65536 → 0xE000 ≤ word / 2 ^ 48 % 65536)
+      → bytes ≡ len_utf8 (word % 65536) + len_utf8 (word / 2 ^ 16 % 65536) + len_utf8 (word / 2 ^ 32 % 65536) + len_utf8 (word / 2 ^ 48 % 65536)
+      → 4 ≤ bytes → bytes ≤ 12 → PassesRun Utf16 b at most (at + 4) bytes 4
+  plain_run at most word bytes fits room first here boundary p0 p1 p2 p3 sum some few =
+      let unit = λ (j : ℕ) (u : ℕ) (low : j < 4) (is : u ≡ word / 2 ^ (16 * j) % 65536).
+      let place : (at + j) / 4 ≡ at / 4 = omega (arith, first, low) in
+      let offset : (at + j) % 4 ≡ j = omega (arith, first, low) in
+      let same : u ≡ unit_of ws (at + j) =
+      is ∙ ap (λ w. w / 2 ^ (16 * j) % 65536) here ∙ ap (λ k. get_or ws k 0 / 2 ^ (16 * j) % 65536) (sym place) ∙ ap (λ k. get_or ws ((at + j) / 4) 0 / 2 ^ (16 * k) % 65536) (sym offset) in
+      same in
+      let zero_to : PlainTo at 0 0 (at + 0) = subst (PlainTo at 0 0) {x = at} {y = at + 0} (omega arith) (record { number = omega arith; begins = boundary; bytes_are = omega arith }) in
+      let one_to = plain_on at 0 0 (at + 0) (at + 1) (word % 65536) zero_to (omega (arith, fits, room)) (omega arith) (unit 0 (word % 65536) (omega arith) (omega arith)) p0 in
+      let two_to = plain_on at 1 _ (at + 1) (at + 2) (word / 2 ^ 16 % 65536) one_to (omega (arith, fits, room)) (omega arith) (unit 1 (word / 2 ^ 16 % 65536) (omega arith) refl) p1 in
+      let three_to = plain_on at 2 _ (at + 2) (at + 3) (word / 2 ^ 32 % 65536) two_to (omega (arith, fits, room)) (omega arith) (unit 2 (word / 2 ^ 32 % 65536) (omega arith) refl) p2 in
+      let four_to = plain_on at 3 _ (at + 3) (at + 4) (word / 2 ^ 48 % 65536) three_to (omega (arith, fits, room)) (omega arith) (unit 3 (word / 2 ^ 48 % 65536) (omega arith) refl) p3 in
+      record {
+        number = omega (arith, four_to.number);
+        boundary = four_to.begins;
+        other = omega (arith, four_to.bytes_are, sum);
+        ahead = omega arith;
+        within = omega (arith, fits, room);
+        some = omega (arith, some);
+        size = inr (omega arith, some, omega (arith, few, room), omega (arith, room));
+      }
+
+  -- ---- one scalar
+  pub code_run : (at most next code width bytes : ℕ) → at < size_in Utf16 b → start len_utf16 b (down len_utf16 b at) ≡ at → code ≡ get_or b (down len_utf16 b at) 0
+      → width ≡ len_utf16 (get_or b (down len_utf16 b at) 0) → bytes ≡ len_utf8 code → next ≡ at + width → PassesRun Utf16 b at most next bytes 1
+  code_run at most next code width bytes inside boundary is wide takes ends =
+      one_run Utf16 b at most next bytes (passes Utf16 b at next bytes inside boundary (ends ∙ ap (λ k. at + k) wide) (takes ∙ ap len_utf8 is))

@@ -1,5 +1,6 @@
 //! Reading bytes and units out of words, and codes out of bytes and units.
-ghost use Rattle.std.specs.Prelude.{◌≡◌, ◌≢◌, ◌+◌, ◌-◌, ◌*◌, ◌/◌, ◌%◌, ◌^◌, ◌<◌, ◌≤◌, ℕ, List, slice_index, IsTrue, ◌↔◌};
+ghost use Rattle.std.specs.Prelude.{◌≡◌, ◌≢◌, ◌+◌, ◌-◌, ◌*◌, ◌/◌, ◌%◌, ◌^◌, ◌<◌, ◌≤◌, ℕ, List, slice_index, IsTrue, ◌↔◌, true, false};
+ghost use Rattle.std.specs.Char.{len_utf8};
 ghost use Rattle.std.specs.Option.{unwrap_or};
 ghost use Rattle.std.specs.Char.Utf16.{lone_unit_char, surrogate_pair_char};
 ghost use Rattle.text_spec.specs.Packed.{byte_of, unit_of, IsPair};
@@ -124,4 +125,53 @@ pub(crate) fn code_of_units(unit: u16, next: u16) -> (u32, u32)
         return (0x1_0000 + high * 0x400 + low, 2);
     }
     (lone_unit(unit) as u32, 1)
+}
+
+/// Whether none of the four units of a word is half of a surrogate pair.
+pub(crate) fn has_no_half(word: u64) -> bool
+    ensures first { result ≡ true → 0xD800 ≤ word % 65536 → 0xE000 ≤ word % 65536 }
+    ensures second { result ≡ true → 0xD800 ≤ word / 2 ^ 16 % 65536 → 0xE000 ≤ word / 2 ^ 16 % 65536 }
+    ensures third { result ≡ true → 0xD800 ≤ word / 2 ^ 32 % 65536 → 0xE000 ≤ word / 2 ^ 32 % 65536 }
+    ensures fourth { result ≡ true → 0xD800 ≤ word / 2 ^ 48 % 65536 → 0xE000 ≤ word / 2 ^ 48 % 65536 }
+{
+    !is_half(unit_in(word, 0))
+        && !is_half(unit_in(word, 1))
+        && !is_half(unit_in(word, 2))
+        && !is_half(unit_in(word, 3))
+}
+
+/// Whether a unit is half of a surrogate pair.
+fn is_half(unit: u16) -> bool
+    ensures { result ≡ false → 0xD800 ≤ unit → 0xE000 ≤ unit }
+{
+    is_high_half(unit) || is_low_half(unit)
+}
+
+/// How many bytes of UTF-8 the scalar of a code takes (The Unicode Standard, table 3-6).
+pub(crate) fn bytes_of_code(code: u32) -> u64
+    ensures value { result ≡ len_utf8 code }
+    ensures some { 1 ≤ result }
+    ensures most { code < 65536 → result ≤ 3 }
+{
+    if code < 0x80 {
+        1
+    } else if code < 0x800 {
+        2
+    } else if code < 0x1_0000 {
+        3
+    } else {
+        4
+    }
+}
+
+/// How many bytes of UTF-8 the scalars take that the four units of a word spell, none of which is half of a pair.
+pub(crate) fn bytes_of_units(word: u64) -> u64
+    ensures value { result ≡ len_utf8 (word % 65536) + len_utf8 (word / 2 ^ 16 % 65536) + len_utf8 (word / 2 ^ 32 % 65536) + len_utf8 (word / 2 ^ 48 % 65536) }
+    ensures some { 4 ≤ result }
+    ensures most { result ≤ 12 }
+{
+    bytes_of_code(unit_in(word, 0) as u32)
+        + bytes_of_code(unit_in(word, 1) as u32)
+        + bytes_of_code(unit_in(word, 2) as u32)
+        + bytes_of_code(unit_in(word, 3) as u32)
 }

@@ -1,14 +1,14 @@
 ghost use Rattle.std.specs.Prelude.{◌≡◌, ◌+◌, ◌/◌, ◌<◌, ◌≤◌, slice_index};
 ghost use Rattle.std.specs.Char.{len_utf8};
-ghost use Rattle.text_spec.specs.declared.encoding.Encoding.TheVariants.{Utf8};
-ghost use Rattle.text_spec.specs.Offsets.{start, down};
+ghost use Rattle.text_spec.specs.declared.encoding.Encoding.TheVariants.{Utf8, Utf16};
+ghost use Rattle.text_spec.specs.Offsets.{len_utf16, start, down};
 ghost use Rattle.text_spec.specs.Views.{width_in, size_in};
 ghost use Rattle.word_units.specs.Running.{PassesRun};
 
-use crate::packing::{byte_in, width_of_lead};
+use crate::packing::{byte_in, bytes_of_code, bytes_of_units, has_no_half, width_of_lead};
+use crate::scalar::code16_beside;
 use crate::steps::Steps;
 use crate::text::Text;
-use crate::walk::pass_scalar;
 use std::sync::ledger::Ledger;
 use text_spec::Encoding;
 
@@ -17,6 +17,9 @@ const HIGH_BITS: u64 = 0x8080_8080_8080_8080;
 
 /// How far the scalars that begin in a word of UTF-8 reach from a place in it, in bytes, at most: the last may end three bytes behind it.
 const REACH: u64 = 11;
+
+/// How many bytes of UTF-8 the scalars of a word of UTF-16 take at most.
+const WORD_BYTES: u64 = 12;
 
 /// The scalars that begin in a word of UTF-8 from the boundary `at` on: where the last ends, how many code units of UTF-16 they take, and
 /// how many they are. `word` is the word of `at`.
@@ -78,6 +81,31 @@ fn units_of_width(width: u32) -> u64
     if width == 4 { 2 } else { 1 }
 }
 
+/// What one word of UTF-16 tells: the four scalars of a word without halves of pairs, where there is room for them, or else one scalar.
+fn pass_units<T: Text, L: Ledger>(
+    t: &mut T,
+    at: u64,
+    most: u64,
+    steps: &mut Steps<L>,
+) -> (u64, u64, u64)
+    requires encoding { T.storage t.old ≡ Utf16 }
+    requires inside { at < size_in Utf16 (T.whole t.old) }
+    requires fits { at + most ≤ size_in Utf16 (T.whole t.old) }
+    requires boundary { start len_utf16 (T.whole t.old) (down len_utf16 (T.whole t.old) at) ≡ at }
+    ensures passes { PassesRun Utf16 (T.whole t.old) at most result.0 result.1 result.2 }
+    ensures kept { t.new ≡ t.old }
+    ensures cost { steps.new ≤ steps.old + 2 }
+    ensures counted { steps.old < steps.new }
+{
+    let _count = t.count();
+    let word = t.word(at / 4, steps);
+    if most >= WORD_BYTES && at % 4 == 0 && has_no_half(word) {
+        return (at + 4, bytes_of_units(word), 4);
+    }
+    let (code, width) = code16_beside(t, word, at, steps);
+    (at + width as u64, bytes_of_code(code), 1)
+}
+
 /// Where what is passed from the boundary `at` on ends, how many code units of the other encoding it takes, and how many scalars it is.
 ///
 /// It is one scalar, or the scalars that begin in a word where they end within `most` code units and have no more of the other encoding.
@@ -100,9 +128,6 @@ pub fn pass_run<T: Text, L: Ledger>(
 {
     match t.encoding() {
         Encoding::Utf8 => pass_bytes(t, at, most, steps),
-        Encoding::Utf16 => {
-            let (next, units) = pass_scalar(t, at, steps);
-            (next, units, 1)
-        }
+        Encoding::Utf16 => pass_units(t, at, most, steps),
     }
 }

@@ -1,4 +1,4 @@
-ghost use Rattle.std.specs.Prelude.{◌≡◌, ◌+◌, ◌<◌, ◌≤◌, slice_index};
+ghost use Rattle.std.specs.Prelude.{◌≡◌, ◌+◌, ◌/◌, ◌<◌, ◌≤◌, slice_index};
 ghost use Rattle.std.specs.Char.{len_utf8, IsScalar};
 ghost use Rattle.text_spec.specs.declared.encoding.Encoding.TheVariants.{Utf8, Utf16};
 ghost use Rattle.text_spec.specs.Offsets.{len_utf16, start, down};
@@ -35,6 +35,30 @@ fn code8_at<T: Text, L: Ledger>(t: &mut T, p: u64, steps: &mut Steps<L>) -> (u32
     (code_of_bytes(lead, second, third, fourth), width)
 }
 
+/// The code of the scalar that begins at unit `p`, and how many units it takes. The word of `p` is at hand, and at most one more is read.
+pub(crate) fn code16_beside<T: Text, L: Ledger>(
+    t: &mut T,
+    word: u64,
+    p: u64,
+    steps: &mut Steps<L>,
+) -> (u32, u32)
+    requires encoding { T.storage t.old ≡ Utf16 }
+    requires inside { p < size_in Utf16 (T.whole t.old) }
+    requires boundary { start len_utf16 (T.whole t.old) (down len_utf16 (T.whole t.old) p) ≡ p }
+    requires here { word ≡ slice_index (T.words t.old) (p / 4) }
+    ensures code { result.0 ≡ slice_index (T.whole t.old) (down len_utf16 (T.whole t.old) p) }
+    ensures width { result.1 ≡ len_utf16 (slice_index (T.whole t.old) (down len_utf16 (T.whole t.old) p)) }
+    ensures scalar { IsScalar result.0 }
+    ensures kept { t.new ≡ t.old }
+    ensures cost { steps.new ≤ steps.old + 1 }
+    ensures counted { steps.old ≤ steps.new }
+{
+    let _count = t.count();
+    let unit = unit_in(word, p);
+    let beside = other_half(t, word, unit, p, steps);
+    code_of_units(unit, beside)
+}
+
 /// The code of the scalar that begins at unit `p`, and how many units it takes.
 fn code16_at<T: Text, L: Ledger>(t: &mut T, p: u64, steps: &mut Steps<L>) -> (u32, u32)
     requires encoding { T.storage t.old ≡ Utf16 }
@@ -49,9 +73,7 @@ fn code16_at<T: Text, L: Ledger>(t: &mut T, p: u64, steps: &mut Steps<L>) -> (u3
 {
     let _count = t.count();
     let word = t.word(p / 4, steps);
-    let unit = unit_in(word, p);
-    let beside = other_half(t, word, unit, p, steps);
-    code_of_units(unit, beside)
+    code16_beside(t, word, p, steps)
 }
 
 /// The code of the scalar that begins at `p`, and how many code units of the storage it takes.

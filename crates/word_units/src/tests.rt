@@ -46,7 +46,7 @@ fn passed_by_scalars<T: Text, L: Ledger>(t: &mut T, steps: &mut Steps<L>) -> Pas
     (at, units, scalars)
 }
 
-/// The walk that takes a word of ASCII at once.
+/// The walk that takes what begins in a word at once.
 fn passed_by_runs<T: Text, L: Ledger>(t: &mut T, steps: &mut Steps<L>) -> Passed {
     let end = t.count();
     let mut at = 0;
@@ -231,6 +231,47 @@ fn check_utf16(
     let passed = (units.len() as u64, scalars.len() as u64, count);
     assert_eq!(rt; got.by_scalars, passed, "scalars of {scalars:?}");
     assert_eq!(rt; got.by_runs, passed, "runs of {scalars:?}");
+    Ok(())
+}
+
+/// Both walks over the text that units spell pass so much.
+fn check_passed(
+    rt: &impl Abort,
+    alloc: Global,
+    units: &[u16],
+    passed: Passed,
+) -> Result<(), OutOfMemory> {
+    let mut t = VecText::from_utf16(alloc, units)?.expect(rt, "{units:?} are few");
+    let got = read_all(alloc, &mut t)?;
+    assert_eq!(rt; got.by_scalars, passed, "scalars of {units:?}");
+    assert_eq!(rt; got.by_runs, passed, "runs of {units:?}");
+    Ok(())
+}
+
+/// Words of four units: scalars of each length, and a pair or a lone half at each of a word's places.
+#[test]
+fn units_are_passed_by_words(rt: HostRuntime) -> Result<(), OutOfMemory> {
+    let alloc = rt.alloc();
+    for pad in ["", "x", "xx", "xxx"] {
+        for piece in ["a", "é", "€", "aé€\u{FFFD}", "😀", "a😀é€"] {
+            let text = format!(in alloc; "{pad}{piece}{piece}{piece}{piece}aé€zaé€zaé€z{piece}")?;
+            let units = text.encode_utf16().collect::<Vec<u16>>(alloc)?;
+            let (count, long) = scalars_and_units(text.as_str());
+            check_passed(
+                &rt,
+                alloc,
+                units.as_slice(),
+                (long, text.len() as u64, count),
+            )?;
+        }
+    }
+    for half in [0xD800, 0xDBFF, 0xDC00, 0xDFFF] {
+        for place in 0..8 {
+            let mut units = [0x61; 20];
+            units[place] = half;
+            check_passed(&rt, alloc, &units, (20, 22, 20))?;
+        }
+    }
     Ok(())
 }
 

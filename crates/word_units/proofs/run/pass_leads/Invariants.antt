@@ -1,4 +1,4 @@
-use Rattle.std.proofs.Common.{◌≡◌, ◌-◌, ◌+◌, ◌*◌, ◌/◌}
+use Rattle.std.proofs.Common.{◌-◌, ◌+◌, ◌*◌, ◌/◌}
 use Rattle.word_units.proofs.Running.{Led}
 use Rattle.word_units.proofs.run.pass_leads.Given as goal
 
