@@ -1,4 +1,4 @@
-//! Walks over scalars, a word of ASCII at once, that count the units of both encodings.
+//! Walks over scalars, a word at once, that count the units of both encodings.
 ghost use Rattle.std.specs.Prelude.{◌≡◌, ◌+◌, ◌*◌, ◌<◌, ◌≤◌, ◌⊎◌, suc};
 ghost use Rattle.text_spec.specs.Offsets.{start, down};
 ghost use Rattle.text_spec.specs.Views.{width_in, other_width, size_in};

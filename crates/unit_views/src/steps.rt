@@ -19,7 +19,7 @@ fn run_limit(at: u64, to: u64, room: u64) -> u64
     if room < to - at { room } else { to - at }
 }
 
-/// Where what is passed from the boundary `at` on ends, and how many elements that is: a scalar's, or those of several of ASCII
+/// Where what is passed from the boundary `at` on ends, and how many elements that is: a scalar's, or those of several of one word
 /// that end no later than `to` and for which there is room. At most two words are read.
 pub(crate) fn pass_elements<T: Text, L: Ledger>(
     t: &mut T,
