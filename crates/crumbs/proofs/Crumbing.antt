@@ -2,10 +2,10 @@
 use Rattle.std.proofs.Common.{◌≡◌, refl, sym, ap, ◌∙◌, ℕ, zero, suc, ◌+◌, ◌-◌, ◌*◌, ◌/◌, ◌%◌, ◌^◌, ◌<◌, ◌≤◌, List, [], ◌∷◌, length, get_or, arith, ⊎_elim, true, false, is_le, nat_cmp, subst}
 use Rattle.std.proofs.lemmas.Bool.{cases_lt, cases_eq, cond-true, cond-false, eq-eqb, ne_eqb}
 use Rattle.std.proofs.lemmas.List.FromFn.{get_or-map-range_with_len, length-map-range_with_len}
-use Rattle.std.proofs.lemmas.Nat.{div-add-mod', mul-le, le-div}
+use Rattle.std.proofs.lemmas.Nat.{div-add-mod', mul-le, le-div, pow_pos}
 use Rattle.std.proofs.lemmas.Bool.Decides.{nat_tests}
 use Rattle.std.proofs.lemmas.Map.Keys.{le_from_is_le}
-use Rattle.std.proofs.Math.Nat.{pow-suc, mul-div_cancel}
+use Rattle.std.proofs.Math.Nat.{pow-suc, mul-div_cancel, mod-lt}
 use Rattle.std.proofs.lemmas.Str.{len_utf8_bounds}
 use Rattle.std.specs.Char.{len_utf8}
 use Rattle.text_spec.specs.declared.encoding.Encoding.{Encoding}
@@ -83,6 +83,10 @@ quotient_le n d h = omega (arith, div-add-mod' n d, mul-le (n / d) 1 (n / d) d (
 pub before_or_at : (o n : ℕ) → o / n * n ≤ o
 before_or_at o n = omega (arith, div-add-mod' o n)
 
+-- and the one behind it
+pub next_multiple : (o n : ℕ) → 1 ≤ n → o < o / n * n + n
+next_multiple o n h = omega (arith, div-add-mod' o n, mod-lt o h)
+
 -- a breadcrumb's number is that of an offset within the text
 pub multiple_in : (m n j : ℕ) → j ≤ m / n → j * n ≤ m
 multiple_in m n j h = omega (arith, div-add-mod' m n, mul-le j n (m / n) n h (omega arith))
@@ -114,6 +118,15 @@ index16-zero t =
 pub halved : (w less e s b : ℕ) → 2 ≤ w → w ≤ 2 ^ e → 2 * less ≤ w + 1 → s + e ≤ b → (f : ℕ) × (less ≤ 2 ^ f) × (s + 1 + f ≤ b)
 halved w less zero s b two most half left = absurd (omega arith)
 halved w less (suc e) s b two most half left = let p : 2 ^ suc e ≡ 2 ^ e * 2 = pow-suc 2 e in (e, omega arith, omega arith)
+
+-- and of what can be halved so often, a half can be halved once less
+pub kept_half : (w less left b s : ℕ) → 2 ≤ w → w ≤ 2 * less + 1 → 2 ^ left ≤ w → b ≤ s + left → (f : ℕ) × (2 ^ f ≤ less) × (b ≤ s + 1 + f)
+kept_half w less zero b s two most half left = (0, omega (arith, two, most), omega (arith, left))
+kept_half w less (suc e) b s two most half left = let p : 2 ^ suc e ≡ 2 ^ e * 2 = pow-suc 2 e in (e, omega (arith, p, half, most), omega (arith, left))
+
+pub none_left : (left w : ℕ) → 2 ^ left ≤ w → w ≤ 1 → left ≡ 0
+none_left zero w half one = refl
+none_left (suc e) w half one = absurd (omega (arith, pow-suc 2 e, pow_pos e, half, one))
 
 -- ---- what a comparison of places says
 pub le_told : (a b : ℕ) → true ≡ is_le (nat_cmp a b) → a ≤ b

@@ -4,5 +4,7 @@ pub mod Seeing
 pub mod Growing
 pub mod Windows
 pub mod Matching
+pub mod WordsRead
+pub mod Scans
 pub mod Walks
 pub mod Sampling

@@ -8,26 +8,18 @@ use Rattle.text_spec.specs.Crumbs.{size16, index_word8, index16}
 use Rattle.text_spec.specs.Offsets.{len_utf16, start, down}
 use Rattle.text_spec.specs.Rounding.{kept_offset, other_floor, other_offset}
 use Rattle.text_spec.specs.Views.{size_in}
-use Rattle.text_spec.proofs.Downward.{start-down, down-length}
+use Rattle.text_spec.proofs.Downward.{start-down, down-length, down-greatest}
 use Rattle.text_spec.proofs.Walk.{start-zero, start-suc, start-le, down-next, down-unique, down-start, down-end}
 use Rattle.text_spec.proofs.Widths.{len16_some, len16_most, len8_some, len8_pair}
 use Rattle.index_words.specs.Fields.{position_of, transcoded_of, place_of}
 use Rattle.word_units.specs.Walking.{Passes}
 use Rattle.rounding.specs.Resolving.{Reaches, index_place}
-use Rattle.crumbs.specs.Searching.{IsLastCrumb, Covers}
-use Rattle.crumbs.proofs.Crumbing.{index16-at, index16-word, past_most, before_or_at, index16-increases}
+use Rattle.crumbs.specs.Searching.{IsLastCrumb}
+use Rattle.crumbs.specs.Scanning.{Stands}
+use Rattle.crumbs.proofs.Crumbing.{index16-word, past_most, before_or_at, next_multiple, index16-increases}
 
 -- ---- one scalar on
 module _ (t : List ℕ) (at units : ℕ) (here : Reaches Utf8 t at units) where
-  -- below the end of the units, a byte is there
-  pub begun_inside : units < size16 t → at < size_in Utf8 t
-  begun_inside h =
-      let k = down len_utf8 t at in
-      ⊎_elim (λ l. l)
-      (λ (l : size_in Utf8 t ≤ at).
-      let all : start len_utf16 t k ≡ size16 t = ap (start len_utf16 t) (down-end len_utf8 t at l) in absurd (omega (arith, all, here.offset, h)))
-      (cases_lt at (size_in Utf8 t))
-
   pub record Stepped8 (next more : ℕ) : Type 0 where
     pub reaches : Reaches Utf8 t next (units + more)
     pub few : more ≤ 2
@@ -55,102 +47,12 @@ module _ (t : List ℕ) (at units : ℕ) (here : Reaches Utf8 t at units) where
         inside = p.inside;
       }
 
-  -- the index of the units at a boundary, and of the second half of the pair there
-  pub index_here : units ≤ size16 t → index_word8 at 0 ≡ index16 t units
-  index_here h =
-      let k = down len_utf8 t at in
-      let d : down len_utf16 t units ≡ k = ap (down len_utf16 t) (sym here.offset) ∙ down-start len_utf16 len16_some t k (down-length len_utf8 t at) in
-      index16-at t units k at 0 d here.boundary (omega (arith, here.offset))
-
-  pub index_inside : (o next more : ℕ) → Passes Utf8 t at next more → units < o → o < units + more → index_word8 at 1 ≡ index16 t o
-  index_inside o next more p low high =
-      let k = down len_utf8 t at in
-      let s = stepped8 next more p in
-      let d : down len_utf16 t o ≡ k = down-unique len_utf16 t o k s.inside (omega (arith, here.offset)) (omega (arith, s.is_more)) in
-      index16-at t o k at 1 d here.boundary (omega (arith, here.offset, s.few))
-
--- ---- from the breadcrumb before an offset
-pub record Begun (t : List ℕ) (m o word : ℕ) : Type 0 where
-  pub past_few : transcoded_of word ≤ 1
-  pub reaches : Reaches Utf8 t (position_of word + 4 * transcoded_of word) (m + transcoded_of word)
-  pub order : m + transcoded_of word ≤ o
-  pub inside : position_of word + 4 * transcoded_of word ≤ size_in Utf8 t
-
+-- ---- from the breadcrumb before an index
 reaches_at : (t : List ℕ) (k : ℕ) → k ≤ length t → Reaches Utf8 t (start len_utf8 t k) (start len_utf16 t k)
 reaches_at t k h =
     let same = down-start len_utf8 len8_some t k h in
     record { boundary = ap (start len_utf8 t) same; offset = ap (start len_utf16 t) same }
 
-pub begun : (t : List ℕ) (m o word : ℕ) → m < o → o ≤ size16 t → word ≡ index16 t m → Begun t m o word
-begun t m o word before inside is =
-    let k = down len_utf16 t m in
-    let w = index16-word t m (omega (arith, before, inside)) in
-    let near = down-next len_utf16 t m (omega (arith, before, inside)) in
-    let x = m - start len_utf16 t k in
-    let most = past_most t m (omega (arith, before, inside)) in
-    let position : position_of word ≡ start len_utf8 t k = ap position_of is ∙ w.position in
-    let transcoded : transcoded_of word ≡ x = ap transcoded_of is ∙ w.transcoded in
-    let low = start-down len_utf16 t m in
-    let next16 = start-suc len_utf16 t k near.0 in
-    let next8 = start-suc len_utf8 t k near.0 in
-    ⊎_elim
-    (λ e.
-    let p : start len_utf8 t k ≡ position_of word + 4 * transcoded_of word = omega (arith, position, transcoded, e) in
-    let u : start len_utf16 t k ≡ m + transcoded_of word = omega (arith, transcoded, e, low) in
-    record {
-      past_few = omega (arith, transcoded, most);
-      reaches = rw (← p, ← u) (reaches_at t k (down-length len_utf16 t m));
-      order = omega (arith, transcoded, most, before);
-      inside = omega (arith, p, start-le len_utf8 t k);
-    })
-    (λ e.
-    let two : len_utf16 (get_or t k 0) ≡ 2 = omega (arith, low, near.1, next16, e, len16_most (get_or t k 0)) in
-    let p : start len_utf8 t (suc k) ≡ position_of word + 4 * transcoded_of word = omega (arith, position, transcoded, most, e, next8, len8_pair (get_or t k 0) two) in
-    let u : start len_utf16 t (suc k) ≡ m + transcoded_of word = omega (arith, transcoded, most, e, low, next16, two) in
-    record {
-      past_few = omega (arith, transcoded, most);
-      reaches = rw (← p, ← u) (reaches_at t (suc k) near.0);
-      order = omega (arith, transcoded, most, before);
-      inside = omega (arith, p, start-le len_utf8 t (suc k));
-    })
-    (cases_eq x 0)
-
--- the same for a stride that is told
-pub begun_by : (t : List ℕ) (n stride o word : ℕ) → stride ≡ n → (o / stride * stride ≡ o → ⊥) → o ≤ size16 t → word ≡ index16 t (o / n * n) → Begun t (o / stride * stride) o word
-begun_by t n stride o word same other inside is =
-    let low = before_or_at o stride in
-    begun t (o / stride * stride) o word (⊎_elim (λ h. h) (λ (h : o ≤ o / stride * stride). absurd (other (omega arith))) (cases_lt (o / stride * stride) o)) inside
-    (is ∙ ap (λ s. index16 t (o / s * s)) (sym same))
-
--- ---- the scalar over a byte
-module _ (t : List ℕ) (p at units : ℕ) (here : Reaches Utf8 t at units) (order : at ≤ p) where
-  pub number_over : (next more : ℕ) → Passes Utf8 t at next more → p < next → down len_utf8 t p ≡ down len_utf8 t at
-  number_over next more q before =
-      let s = stepped8 t at units here next more q in
-      down-unique len_utf8 t p (down len_utf8 t at) s.inside (omega (arith, here.boundary, order)) (omega (arith, s.ends, before))
-
-  pub covers_at : (next more : ℕ) → Passes Utf8 t at next more → p < next → Covers t p at units more
-  covers_at next more q before =
-      let s = stepped8 t at units here next more q in
-      let same = sym (number_over next more q before) in
-      record {
-        begins = sym here.boundary ∙ ap (start len_utf8 t) same;
-        units_are = sym here.offset ∙ ap (start len_utf16 t) same;
-        takes_are = omega (arith, s.is_more, here.offset, ap (start len_utf16 t) same, ap (λ k. start len_utf16 t (suc k)) same);
-      }
-
-  pub covers_end : size_in Utf8 t ≤ at → p ≤ size_in Utf8 t → Covers t p at units 0
-  covers_end past within =
-      let same : at ≡ p = omega (arith, past, within, order) in
-      let last : down len_utf8 t at ≡ length t = down-end len_utf8 t at past in
-      subst (λ q. Covers t q at units 0) same
-      (record {
-        begins = sym here.boundary;
-        units_are = sym here.offset;
-        takes_are = omega (arith, ap (start len_utf16 t) last, start-le len_utf16 t (suc (down len_utf8 t at)));
-      })
-
--- ---- from the breadcrumb before an index
 pub scalar_of_crumb : (t : List ℕ) (m word : ℕ) → m ≤ size16 t → word ≡ index16 t m → Reaches Utf8 t (position_of word) (m - transcoded_of word)
 scalar_of_crumb t m word inside is =
     let k = down len_utf16 t m in
@@ -158,6 +60,12 @@ scalar_of_crumb t m word inside is =
     let p : start len_utf8 t k ≡ position_of word = sym (ap position_of is ∙ w.position) in
     let u : start len_utf16 t k ≡ m - transcoded_of word = omega (arith, ap transcoded_of is, w.transcoded, start-down len_utf16 t m) in
     rw (← p, ← u) (reaches_at t k (down-length len_utf16 t m))
+
+pub number_of_crumb : (t : List ℕ) (m word : ℕ) → m ≤ size16 t → word ≡ index16 t m → down len_utf8 t (position_of word) ≡ down len_utf16 t m
+number_of_crumb t m word inside is =
+    let k = down len_utf16 t m in
+    let position : position_of word ≡ start len_utf8 t k = ap position_of is ∙ (index16-word t m inside).position in
+    ap (down len_utf8 t) position ∙ down-start len_utf8 len8_some t k (down-length len_utf16 t m)
 
 -- scalars lie no closer than units
 gap : (t : List ℕ) (j d : ℕ) → j + d ≤ length t → d + start len_utf16 t j ≤ start len_utf16 t (j + d)
@@ -192,26 +100,88 @@ before_next t n i m crumb last some =
     (cases_lt u (m + n)))
     (cases_lt (size16 t) (m + n))
 
--- so few scalars lie between them
-pub few_scalars : (t : List ℕ) (n i m crumb : ℕ) → IsLastCrumb t n i m crumb → 1 ≤ n → down len_utf8 t (position_of i) + 1 ≤ down len_utf8 t (position_of crumb) + n
-few_scalars t n i m crumb last some =
-    let k = down len_utf8 t (position_of i) in
+-- so few scalars lie from the one at a unit to one that begins less than n units on
+few_on : (t : List ℕ) (n m k : ℕ) → k ≤ length t → start len_utf16 t k < m + n → 1 ≤ n → k + 1 ≤ down len_utf16 t m + n
+few_on t n m k inside near some =
     let j = down len_utf16 t m in
-    let w = index16-word t m last.inside in
-    let position : position_of crumb ≡ start len_utf8 t j = ap position_of last.crumb_is ∙ w.position in
-    let from : down len_utf8 t (position_of crumb) ≡ j = ap (down len_utf8 t) position ∙ down-start len_utf8 len8_some t j (down-length len_utf16 t m) in
-    let inside : k ≤ length t = down-length len_utf8 t (position_of i) in
     ⊎_elim
     (λ (h : j < k).
     let before : m < size16 t = ⊎_elim (λ l. l) (λ (l : size16 t ≤ m). absurd (omega (arith, down-end len_utf16 t m l, h, inside))) (cases_lt m (size16 t)) in
-    let near = down-next len_utf16 t m before in
+    let next = down-next len_utf16 t m before in
     let d : suc j + (k - suc j) ≡ k = omega (arith, h) in
-    omega (arith, from, near.1, before_next t n i m crumb last some, gap t (suc j) (k - suc j) (omega (arith, d, inside)), ap (start len_utf16 t) d, h))
-    (λ (h : k ≤ j). omega (arith, from, h, some))
+    omega (arith, next.1, near, gap t (suc j) (k - suc j) (omega (arith, d, inside)), ap (start len_utf16 t) d, h))
+    (λ (h : k ≤ j). omega (arith, h, some))
     (cases_lt j k)
 
+-- from the breadcrumb before an index to the scalar over it, and from the one before an offset to the scalar over that
+pub few_to_byte : (t : List ℕ) (n i m crumb : ℕ) → IsLastCrumb t n i m crumb → 1 ≤ n → down len_utf8 t (position_of i) + 1 ≤ down len_utf16 t m + n
+few_to_byte t n i m crumb last some =
+    few_on t n m (down len_utf8 t (position_of i)) (down-length len_utf8 t (position_of i)) (before_next t n i m crumb last some) some
+
+pub few_to_unit : (t : List ℕ) (n m o : ℕ) → o < m + n → 1 ≤ n → down len_utf16 t o + 1 ≤ down len_utf16 t m + n
+few_to_unit t n m o near some = few_on t n m (down len_utf16 t o) (down-length len_utf16 t o) (omega (arith, near, start-down len_utf16 t o)) some
+
+-- only one breadcrumb is the last
+pub last_unique : (t : List ℕ) (n i m crumb other crumb' : ℕ) → IsLastCrumb t n i m crumb → IsLastCrumb t n i other crumb' → m ≡ other
+last_unique t n i m crumb other crumb' a b =
+    ⊎_elim (λ (h : m < other). absurd (apart t n i m crumb other crumb' a b h))
+    (λ (h : other ≤ m).
+    ⊎_elim (λ (l : other < m). absurd (apart t n i other crumb' m crumb b a l)) (λ (l : m ≤ other). omega (arith, h, l)) (cases_lt other m))
+    (cases_lt m other)
+  where
+    apart : (t : List ℕ) (n i m crumb other crumb' : ℕ) → IsLastCrumb t n i m crumb → IsLastCrumb t n i other crumb' → m < other → ⊥
+    apart t n i m crumb other crumb' a b h =
+        let after = a.last (other / n) (omega (arith, h, b.at_multiple)) (omega (arith, b.inside, b.at_multiple)) in
+        let later : place_of i < place_of (index16 t other) = subst (λ o. place_of i < place_of (index16 t o)) b.at_multiple after in
+        omega (arith, later, b.not_after, ap place_of b.crumb_is)
+
+-- a later offset lies in no earlier scalar
+pub down16-le : (t : List ℕ) (m o : ℕ) → m ≤ o → down len_utf16 t m ≤ down len_utf16 t o
+down16-le t m o h = down-greatest len_utf16 t o (down len_utf16 t m) (down-length len_utf16 t m) (omega (arith, start-down len_utf16 t m, h))
+
+-- nor a later index than the breadcrumb
+pub crumb_number-le : (t : List ℕ) (n i m crumb : ℕ) → IsLastCrumb t n i m crumb → down len_utf16 t m ≤ down len_utf8 t (position_of i)
+crumb_number-le t n i m crumb last =
+    let k = down len_utf16 t m in
+    let w = index16-word t m last.inside in
+    down-greatest len_utf8 t (position_of i) k (down-length len_utf16 t m) (omega (arith, last.not_after, ap place_of last.crumb_is, w.place))
+
+-- ---- where a walk from a breadcrumb begins, and how far it goes
+pub record FromCrumb (t : List ℕ) (n m last word : ℕ) : Type 0 where
+  pub reaches : Reaches Utf8 t (position_of word) (m - transcoded_of word)
+  pub within : position_of word ≤ size_in Utf8 t
+  pub number : down len_utf8 t (position_of word) ≡ down len_utf16 t m
+  pub order : down len_utf8 t (position_of word) ≤ last
+  pub few : last + 1 ≤ down len_utf16 t m + n
+
+pub to_unit : (t : List ℕ) (n o word : ℕ) → 1 ≤ n → o ≤ size16 t → word ≡ index16 t (o / n * n) → FromCrumb t n (o / n * n) (down len_utf16 t o) word
+to_unit t n o word some inside is =
+    let m = o / n * n in
+    let low = before_or_at o n in
+    let number = number_of_crumb t m word (omega (arith, low, inside)) is in
+    let here = scalar_of_crumb t m word (omega (arith, low, inside)) is in
+    record {
+      reaches = here;
+      within = omega (arith, here.boundary, start-le len_utf8 t (down len_utf8 t (position_of word)));
+      number = number;
+      order = omega (arith, number, down16-le t m o low);
+      few = few_to_unit t n m o (next_multiple o n some) some;
+    }
+
+pub to_byte : (t : List ℕ) (n i m word : ℕ) → 1 ≤ n → IsLastCrumb t n i m word → FromCrumb t n m (down len_utf8 t (position_of i)) word
+to_byte t n i m word some last =
+    let number = number_of_crumb t m word last.inside last.crumb_is in
+    let here = scalar_of_crumb t m word last.inside last.crumb_is in
+    record {
+      reaches = here;
+      within = omega (arith, here.boundary, start-le len_utf8 t (down len_utf8 t (position_of word)));
+      number = number;
+      order = omega (arith, number, crumb_number-le t n i m word last);
+      few = few_to_byte t n i m word last some;
+    }
+
 -- ---- the offset of the unit that an index is rounded down to
-module _ (t : List ℕ) (i at units takes : ℕ) (over : Covers t (position_of i) at units takes) where
+module _ (t : List ℕ) (i begins units takes : ℕ) (over : Stands t (down len_utf8 t (position_of i)) begins units takes) where
   floor_parts : (kept : ℕ) → kept_offset len_utf8 len_utf16 t (size_in Utf8 t) (index_place i) ≡ kept
       → units + kept ≡ other_offset len_utf8 len_utf16 t 0 (other_floor len_utf8 len_utf16 t (size_in Utf8 t) (index_place i))
   floor_parts kept is =
@@ -223,9 +193,9 @@ module _ (t : List ℕ) (i at units takes : ℕ) (over : Covers t (position_of i
   takes_width h = let near = down-next len_utf8 t (position_of i) h in omega (arith, over.takes_are, start-suc len_utf16 t (down len_utf8 t (position_of i)) near.0)
 
   -- a place within the scalar keeps its transcoded offset
-  pub offset_within : position_of i ≤ size_in Utf8 t → at ≡ position_of i → transcoded_of i < takes
+  pub offset_within : position_of i ≤ size_in Utf8 t → begins ≡ position_of i → transcoded_of i < takes
       → units + transcoded_of i ≡ other_offset len_utf8 len_utf16 t 0 (other_floor len_utf8 len_utf16 t (size_in Utf8 t) (index_place i))
-  offset_within within begins inside =
+  offset_within within at inside =
       let k = down len_utf8 t (position_of i) in
       let before : position_of i < size_in Utf8 t = ⊎_elim (λ h. h)
       (λ (h : size_in Utf8 t ≤ position_of i).
@@ -234,13 +204,13 @@ module _ (t : List ℕ) (i at units takes : ℕ) (over : Covers t (position_of i
       (cases_lt (position_of i) (size_in Utf8 t)) in
       floor_parts (transcoded_of i)
       (cond-true ((start len_utf8 t k == position_of i) && (nat_lt (position_of i) (size_in Utf8 t) && nat_lt (transcoded_of i) (len_utf16 (get_or t k 0)))) (transcoded_of i) 0 (rw (
-        eq-eqb (start len_utf8 t k) (position_of i) (omega (arith, over.begins, begins)),
+        eq-eqb (start len_utf8 t k) (position_of i) (omega (arith, over.begins_at, at)),
         lt-ltb (position_of i) (size_in Utf8 t) before,
         lt-ltb (transcoded_of i) (len_utf16 (get_or t k 0)) (omega (arith, takes_width before, inside)),
       ) refl))
 
   -- another one loses it
-  pub offset_else : ((at ≡ position_of i → ⊥) ⊎ (takes ≤ transcoded_of i))
+  pub offset_else : ((begins ≡ position_of i → ⊥) ⊎ (takes ≤ transcoded_of i))
       → units ≡ other_offset len_utf8 len_utf16 t 0 (other_floor len_utf8 len_utf16 t (size_in Utf8 t) (index_place i))
   offset_else other =
       let k = down len_utf8 t (position_of i) in
@@ -253,16 +223,27 @@ module _ (t : List ℕ) (i at units takes : ℕ) (over : Covers t (position_of i
       (λ e.
       let parts = and_parts first (second && third) e in
       let inner = and_parts second third parts.1 in
-      let begins = eqb-true (start len_utf8 t k) (position_of i) parts.0 in
+      let at = eqb-true (start len_utf8 t k) (position_of i) parts.0 in
       let before = ltb-true (position_of i) (size_in Utf8 t) inner.0 in
       let inside = ltb-true (transcoded_of i) (len_utf16 (get_or t k 0)) inner.1 in
-      ⊎_elim (λ no_begin. no_begin (over.begins ∙ begins)) (λ past. absurd (omega (arith, past, inside, takes_width before))) other))
+      ⊎_elim (λ no_begin. no_begin (over.begins_at ∙ at)) (λ past. absurd (omega (arith, past, inside, takes_width before))) other))
     where
       none_kept : (b : Bool) (x : ℕ) → (b ≡ true → ⊥) → cond b x 0 ≡ 0
       none_kept true x not = absurd (not refl)
       none_kept false x not = refl
 
-pub reaches_in : (t : List ℕ) (at units : ℕ) → Reaches Utf8 t at units → (at ≤ size_in Utf8 t) × (units ≤ size16 t)
-reaches_in t at units here =
-    let k = down len_utf8 t at in
-    (omega (arith, here.boundary, start-le len_utf8 t k), omega (arith, here.offset, start-le len_utf16 t k))
+-- ---- the index of a unit, by the scalar that covers it
+pub record Over16 (t : List ℕ) (o begins units : ℕ) : Type 0 where
+  pub order : units ≤ o
+  pub few : o - units ≤ 1
+  pub within : begins ≤ size_in Utf8 t
+
+pub over16 : (t : List ℕ) (o begins units takes : ℕ) → o ≤ size16 t → Stands t (down len_utf16 t o) begins units takes → Over16 t o begins units
+over16 t o begins units takes inside over = record {
+  order = omega (arith, over.units_are, start-down len_utf16 t o);
+  few = omega (arith, over.units_are, past_most t o inside);
+  within = omega (arith, over.begins_at, start-le len_utf8 t (down len_utf16 t o));
+}
+
+pub index_over : (t : List ℕ) (o begins units takes : ℕ) → Stands t (down len_utf16 t o) begins units takes → index_word8 begins (o - units) ≡ index16 t o
+index_over t o begins units takes over = ap (λ p. index_word8 p (o - units)) over.begins_at ∙ ap (λ u. index_word8 (start len_utf8 t (down len_utf16 t o)) (o - u)) over.units_are

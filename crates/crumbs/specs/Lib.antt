@@ -1,3 +1,4 @@
 pub mod Fitting
 pub mod Counting
 pub mod Searching
+pub mod Scanning

@@ -1,5 +1,5 @@
--- The last breadcrumb that isn't after an index.
-use Rattle.std.specs.Prelude.{◌≡◌, ℕ, suc, ◌-◌, ◌*◌, ◌/◌, ◌<◌, ◌≤◌, List}
+-- The last breadcrumb that isn't after an index, and how many words a question reads from there.
+use Rattle.std.specs.Prelude.{◌≡◌, ℕ, suc, ◌+◌, ◌-◌, ◌*◌, ◌/◌, ◌<◌, ◌≤◌, ◌==◌, min, nat_lt, List, length, if◌then◌else◌}
 use Rattle.std.specs.Char.{len_utf8}
 use Rattle.text_spec.specs.Offsets.{len_utf16, start, down}
 use Rattle.text_spec.specs.Crumbs.{size16, index16}
@@ -13,8 +13,20 @@ pub record IsLastCrumb (text : List ℕ) (n index m crumb : ℕ) : Type 0 where
   pub not_after : place_of crumb ≤ place_of index
   pub last : (j : ℕ) → m < j * n → j * n ≤ size16 text → place_of index < place_of (index16 text (j * n))
 
--- the scalar that begins at `at`, behind so many UTF-16 units, covers byte p and takes `takes` units; at the end it is none and takes 0
-pub record Covers (text : List ℕ) (p at units takes : ℕ) : Type 0 where
-  pub begins : at ≡ start len_utf8 text (down len_utf8 text p)
-  pub units_are : units ≡ start len_utf16 text (down len_utf8 text p)
-  pub takes_are : takes ≡ start len_utf16 text (suc (down len_utf8 text p)) - start len_utf16 text (down len_utf8 text p)
+-- how many content words of UTF-8 the scalars begin in from number `first` to before number `end`
+abbrev pub words_begun : List ℕ → ℕ → ℕ → ℕ
+words_begun text first end = if nat_lt first end then start len_utf8 text (end - 1) / 8 - start len_utf8 text first / 8 + 1 else 0
+
+-- the same from number `first` to number `last`, of the scalars that the text has
+abbrev pub words_through : List ℕ → ℕ → ℕ → ℕ
+words_through text first last = words_begun text first (min (suc last) (length text))
+
+-- how many words are read to answer for UTF-16 unit o: the length, the breadcrumb before it and, unless that is its own, the words in
+-- which the scalars from the breadcrumb's to its own begin
+abbrev pub words_to_unit : List ℕ → ℕ → ℕ → ℕ
+words_to_unit text n o = 2 + (if o / n * n == o then 0 else words_through text (down len_utf16 text (o / n * n)) (down len_utf16 text o))
+
+-- how many words are read from the breadcrumb at UTF-16 unit m to answer for a byte: those in which the scalars from the breadcrumb's
+-- to the byte's begin
+abbrev pub words_to_byte : List ℕ → ℕ → ℕ → ℕ
+words_to_byte text m byte = words_through text (down len_utf16 text m) (down len_utf8 text byte)

@@ -34,7 +34,7 @@ fn last_before<T: Text, L: Ledger>(t: &mut T, i: Index, last: u64, steps: &mut S
     ensures after { result < last → place_of i < place_of (index16 (T.whole t.old) ((result + 1) * T.STRIDE)) }
     ensures kept { t.new ≡ t.old }
     ensures cost { (digits : ℕ) → last < 2 ^ digits → steps.new ≤ steps.old + digits }
-    ensures counted { steps.old ≤ steps.new }
+    ensures counted { (digits : ℕ) → 2 ^ digits ≤ last + 1 → steps.old + digits ≤ steps.new }
 {
     let mut low = 0;
     let mut high = last + 1;
@@ -52,15 +52,15 @@ fn last_before<T: Text, L: Ledger>(t: &mut T, i: Index, last: u64, steps: &mut S
 
 /// The last breadcrumb that isn't after an index, with its UTF-16 offset.
 ///
-/// The text's breadcrumbs are known. Places are compared with their transcoded offsets. Two words are read, and at most one more
-/// for each binary digit of the number of breadcrumbs.
+/// The text's breadcrumbs are known. Places are compared with their transcoded offsets. Two words are read, and one for each time that
+/// the breadcrumbs are halved: at most one for each binary digit of the number of the last, and so many that they can be halved.
 pub fn near<T: Text, L: Ledger>(t: &mut T, i: Index, steps: &mut Steps<L>) -> (u64, Index)
     requires known { T.knows_crumbs t.old ≡ true }
     requires some { 1 ≤ T.STRIDE }
     ensures last { IsLastCrumb (T.whole t.old) T.STRIDE i result.0 result.1 }
     ensures kept { t.new ≡ t.old }
     ensures cost { (digits : ℕ) → size16 (T.whole t.old) / T.STRIDE < 2 ^ digits → steps.new ≤ steps.old + 2 + digits }
-    ensures counted { steps.old + 2 ≤ steps.new }
+    ensures counted { (digits : ℕ) → 2 ^ digits ≤ size16 (T.whole t.old) / T.STRIDE + 1 → steps.old + 2 + digits ≤ steps.new }
 {
     let stride = t.stride() as u64;
     let last = length16(t, steps) / stride;

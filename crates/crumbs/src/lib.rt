@@ -26,6 +26,7 @@ mod decoding;
 mod fitting;
 pub mod laws;
 mod listing;
+mod scanning;
 mod walking;
 
 pub use asking::{for_offset, near};

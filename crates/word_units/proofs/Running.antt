@@ -110,6 +110,20 @@ led_none b at begins = record {
   some = λ h. absurd (omega (arith, h));
 }
 
+-- one scalar more, which begins in the word too
+pub led_on : (b : List ℕ) (at next units scalars end more : ℕ) → Led b at next units scalars → next / 8 ≡ at / 8
+    → Passes Utf8 b next end more → next + more ≤ end → Led b at end (units + more) (scalars + 1)
+led_on b at next units scalars end more l near p within = record {
+  number = omega (arith, p.number, l.number);
+  boundary = p.boundary;
+  other = omega (arith, p.other, l.other);
+  order = omega (arith, l.order, p.ahead);
+  reach = omega (arith, near, p.near);
+  few = omega (arith, l.few, within);
+  more = omega (arith, l.more, p.some);
+  some = λ h. omega arith;
+}
+
 pub led_all : (b : List ℕ) (at most next units scalars : ℕ) → Led b at next units scalars → ¬ (next / 8 ≡ at / 8) → at + most ≤ size_in Utf8 b → 11 ≤ most
     → PassesRun Utf8 b at most next units scalars
 led_all b at most next units scalars l past fits room =
@@ -125,36 +139,17 @@ led_all b at most next units scalars l past fits room =
     }
 
 module _ (e : Encoding) (ws : List ℕ) (n : ℕ) (b : List ℕ) (is8 : e ≡ Utf8) (long : n ≡ size_in e b) (denotes : denoted_text e ws n ≡ Some b) where
-  pub lead_run : (at most word lead width units : ℕ) → at < size_in Utf8 b → start len_utf8 b (down len_utf8 b at) ≡ at
+  pub lead_passes : (at word lead width units : ℕ) → at < size_in Utf8 b → start len_utf8 b (down len_utf8 b at) ≡ at
       → word ≡ get_or ws (at / 8) 0 → lead ≡ word / 2 ^ (8 * (at % 8)) % 256
       → (lead < 128 → width ≡ 1) → (128 ≤ lead → lead < 224 → width ≡ 2) → (224 ≤ lead → lead < 240 → width ≡ 3) → (240 ≤ lead → width ≡ 4)
-      → (width ≡ 4 → units ≡ 2) → (width < 4 → units ≡ 1) → PassesRun Utf8 b at most (at + width) units 1
-  lead_run at most word lead width units inside boundary here is w1 w2 w3 w4 pair one =
+      → (width ≡ 4 → units ≡ 2) → (width < 4 → units ≡ 1) → Passes Utf8 b at (at + width) units
+  lead_passes at word lead width units inside boundary here is w1 w2 w3 w4 pair one =
       let told = told8 e ws n b at is8 long denotes inside boundary in
       let c = get_or b (down len_utf8 b at) 0 in
       let byte : lead ≡ byte_of ws at = is ∙ ap (λ w. w / 2 ^ (8 * (at % 8)) % 256) here in
       let wide : width ≡ len_utf8 c = width-is ws at c lead told.stands byte width w1 w2 w3 w4 in
-      one_run Utf8 b at most (at + width) units
-      (passes Utf8 b at (at + width) units inside boundary (ap (λ k. at + k) wide)
-      (units_by_width c units (λ h. pair (wide ∙ h)) (λ h. one (omega (arith, wide, h))) told.few))
-
-  -- ---- the scalars that begin in one word
-  pub led_on : (at next units scalars word lead width more : ℕ) → Led b at next units scalars → next / 8 ≡ at / 8 → at + 11 ≤ size_in Utf8 b
-      → word ≡ get_or ws (at / 8) 0 → lead ≡ word / 2 ^ (8 * (next % 8)) % 256
-      → (lead < 128 → width ≡ 1) → (128 ≤ lead → lead < 224 → width ≡ 2) → (224 ≤ lead → lead < 240 → width ≡ 3) → (240 ≤ lead → width ≡ 4)
-      → (width ≡ 4 → more ≡ 2) → (width < 4 → more ≡ 1) → width ≤ 4 → more ≤ width → 1 ≤ more → Led b at (next + width) (units + more) (scalars + 1)
-  led_on at next units scalars word lead width more l near fits here is w1 w2 w3 w4 pair one most within some =
-      let p = lead_run next 0 word lead width more (omega (arith, near, fits)) l.boundary (here ∙ ap (λ k. get_or ws k 0) (sym near)) is w1 w2 w3 w4 pair one in
-      record {
-        number = omega (arith, p.number, l.number);
-        boundary = p.boundary;
-        other = omega (arith, p.other, l.other);
-        order = omega (arith, l.order);
-        reach = omega (arith, near, most);
-        few = omega (arith, l.few, within);
-        more = omega (arith, l.more, some);
-        some = λ h. omega arith;
-      }
+      passes Utf8 b at (at + width) units inside boundary (ap (λ k. at + k) wide)
+      (units_by_width c units (λ h. pair (wide ∙ h)) (λ h. one (omega (arith, wide, h))) told.few)
 
   -- ---- eight scalars of ASCII
   module _ (at word : ℕ) (fits : at + 8 ≤ size_in Utf8 b) (first : at % 8 ≡ 0) (here : word ≡ get_or ws (at / 8) 0) (none : bit_and word 0x8080808080808080 ≡ 0)

@@ -30,7 +30,7 @@ pub use scalar::scalar_at;
 pub use steps::Steps;
 pub use text::Text;
 pub use vec_text::VecText;
-pub use walk::pass_scalar;
+pub use walk::{pass_lead, pass_scalar};
 
 #[cfg(test)]
 mod tests;

@@ -51,6 +51,16 @@ pub(crate) fn width_of_lead(lead: u8) -> u32
     }
 }
 
+/// How many units of UTF-16 a scalar takes whose UTF-8 takes `width` bytes (The Unicode Standard, section 3.9, D91, D92).
+pub(crate) fn units_of_width(width: u32) -> u64
+    ensures pair { width ≡ 4 → result ≡ 2 }
+    ensures one { width < 4 → result ≡ 1 }
+    ensures few { 1 ≤ width → result ≤ width }
+    ensures some { 1 ≤ result }
+{
+    if width == 4 { 2 } else { 1 }
+}
+
 /// The code that four bytes tell, of which the first says how many count (The Unicode Standard, table 3-6).
 pub(crate) fn code_of_bytes(lead: u8, second: u8, third: u8, fourth: u8) -> u32
     ensures one { lead < 128 → result ≡ lead }

@@ -5,10 +5,11 @@ ghost use Rattle.text_spec.specs.Offsets.{len_utf16, start, down};
 ghost use Rattle.text_spec.specs.Views.{width_in, size_in};
 ghost use Rattle.word_units.specs.Running.{PassesRun};
 
-use crate::packing::{byte_in, bytes_of_code, bytes_of_units, has_no_half, width_of_lead};
+use crate::packing::{bytes_of_code, bytes_of_units, has_no_half};
 use crate::scalar::code16_beside;
 use crate::steps::Steps;
 use crate::text::Text;
+use crate::walk::pass_lead;
 use std::sync::ledger::Ledger;
 use text_spec::Encoding;
 
@@ -36,9 +37,9 @@ fn pass_leads<T: Text>(t: &T, word: u64, at: u64, most: u64) -> (u64, u64, u64)
     let mut units = 0;
     let mut scalars = 0;
     'scalars: while next / 8 == at / 8 {
-        let width = width_of_lead(byte_in(word, next));
-        next += width as u64;
-        units += units_of_width(width);
+        let (end, more) = pass_lead(t, word, next);
+        next = end;
+        units += more;
         scalars += 1;
     }
     (next, units, scalars)
@@ -67,18 +68,8 @@ fn pass_bytes<T: Text, L: Ledger>(
     if most >= REACH {
         return pass_leads(t, word, at, most);
     }
-    let width = width_of_lead(byte_in(word, at));
-    (at + width as u64, units_of_width(width), 1)
-}
-
-/// How many units of UTF-16 a scalar takes whose UTF-8 takes `width` bytes (The Unicode Standard, section 3.9, D91, D92).
-fn units_of_width(width: u32) -> u64
-    ensures pair { width ≡ 4 → result ≡ 2 }
-    ensures one { width < 4 → result ≡ 1 }
-    ensures few { 1 ≤ width → result ≤ width }
-    ensures some { 1 ≤ result }
-{
-    if width == 4 { 2 } else { 1 }
+    let (next, units) = pass_lead(t, word, at);
+    (next, units, 1)
 }
 
 /// What one word of UTF-16 tells: the four scalars of a word without halves of pairs, where there is room for them, or else one scalar.

@@ -1,8 +1,11 @@
-ghost use Rattle.std.specs.Prelude.{◌≡◌, ◌+◌, ◌<◌, ◌≤◌};
+ghost use Rattle.std.specs.Prelude.{◌≡◌, ◌+◌, ◌/◌, ◌<◌, ◌≤◌, slice_index};
+ghost use Rattle.std.specs.Char.{len_utf8};
+ghost use Rattle.text_spec.specs.declared.encoding.Encoding.TheVariants.{Utf8};
 ghost use Rattle.text_spec.specs.Offsets.{start, down};
 ghost use Rattle.text_spec.specs.Views.{width_in, other_width, size_in};
 ghost use Rattle.word_units.specs.Walking.{Passes};
 
+use crate::packing::{byte_in, units_of_width, width_of_lead};
 use crate::scalar::scalar_at;
 use crate::steps::Steps;
 use crate::text::Text;
@@ -34,4 +37,21 @@ pub fn pass_scalar<T: Text, L: Ledger>(t: &mut T, at: u64, steps: &mut Steps<L>)
     let encoding = t.encoding();
     let (scalar, width) = scalar_at(t, at, steps);
     (at + width as u64, other_len(encoding, scalar) as u64)
+}
+
+/// Where the scalar that begins at byte `at` ends, and how many units of UTF-16 it takes: 1 or 2.
+///
+/// The storage is UTF-8, `at` is a scalar boundary of it below its end, and `word` is the content word that holds byte `at`. That byte
+/// tells both (The Unicode Standard, table 3-6), so no word is read.
+pub fn pass_lead<T: Text>(t: &T, word: u64, at: u64) -> (u64, u64)
+    requires encoding { T.storage t.now ≡ Utf8 }
+    requires inside { at < size_in Utf8 (T.whole t.now) }
+    requires boundary { start len_utf8 (T.whole t.now) (down len_utf8 (T.whole t.now) at) ≡ at }
+    requires here { word ≡ slice_index (T.words t.now) (at / 8) }
+    ensures passes { Passes Utf8 (T.whole t.now) at result.0 result.1 }
+    ensures few { at + result.1 ≤ result.0 }
+{
+    let _count = t.count();
+    let width = width_of_lead(byte_in(word, at));
+    (at + width as u64, units_of_width(width))
 }

@@ -14,7 +14,7 @@ invariant-halves g l =
       within : l.high ≤ l.last + 1;
       before : place_of (index16 b (l.low * n)) ≤ place_of l.i;
       after : l.high ≤ l.last → place_of l.i < place_of (index16 b (l.high * n));
-      counted : l.fn.steps ≤ l.steps;
+      counted : (digits : ℕ) → 2 ^ digits ≤ l.last + 1 → (left : ℕ) × (2 ^ left ≤ l.high - l.low) × (l.fn.steps + digits ≤ l.steps + left);
       cost : (digits : ℕ) → l.last < 2 ^ digits → (left : ℕ) × (l.high - l.low ≤ 2 ^ left) × (l.steps + left ≤ l.fn.steps + digits);
     }
 

@@ -1,14 +1,13 @@
-use Rattle.std.proofs.Common.{arith}
-use Rattle.word_units.proofs.Running.{lead_run, ascii_run}
+use Rattle.std.proofs.Common.{subst, arith}
+use Rattle.text_spec.specs.declared.encoding.Encoding.TheVariants.{Utf8}
+use Rattle.word_units.specs.Running.{PassesRun}
+use Rattle.word_units.proofs.Running.{one_run, ascii_run}
 use Rattle.word_units.proofs.run.pass_bytes.Goals as goal
 
 pub returns-clause-passes : goal.returns-clause-passes
 returns-clause-passes g c =
-    let ws = g.T.Text.words c.args.t.now in
-    let b = g.T.Text.whole c.args.t.now in
-    let w = c.width_of_lead-width.ensures in
-    lead_run _ ws _ b c.requires.encoding c.count-count.ensures.value c.count-count.ensures.denotes c.args.at c.args.most c.word-word.result c.byte_in.result c.width_of_lead-width.result c.units_of_width.result
-    c.requires.inside c.requires.boundary c.word-word.ensures.value c.byte_in.ensures w.one w.two w.three w.four c.units_of_width.ensures.pair c.units_of_width.ensures.one
+    subst (λ t. PassesRun Utf8 (g.T.Text.whole t) c.args.at c.args.most c.pass_lead-next.result.0 c.pass_lead-next.result.1 1) c.word-word.ensures.kept
+    (one_run Utf8 _ c.args.at c.args.most _ _ c.pass_lead-next.ensures.passes)
 
 pub returns-then-word-eq0-clause-passes : goal.returns-then-word-eq0-clause-passes
 returns-then-word-eq0-clause-passes g c =

@@ -7,11 +7,8 @@ scalars-init g c = led_none (g.T.Text.whole c.args.t.now) c.args.at c.requires.b
 
 pub scalars-preserved : goal.scalars-preserved
 scalars-preserved g c =
-    let w = c.width_of_lead-width.ensures in
-    let u = c.units_of_width-units.ensures in
-    led_on _ (g.T.Text.words c.args.t.now) _ (g.T.Text.whole c.args.t.now) c.requires.encoding c.count-count.ensures.value c.count-count.ensures.denotes
-    c.args.at c.scalars.next c.scalars.units c.scalars.scalars c.args.word c.byte_in.result c.width_of_lead-width.result c.units_of_width-units.result
-    c.scalars.invariant c.scalars-test.true (omega (arith, c.requires.fits, c.requires.room)) c.requires.here c.byte_in.ensures w.one w.two w.three w.four u.pair u.one w.most (u.few w.some) u.some
+    led_on (g.T.Text.whole c.args.t.now) c.args.at c.scalars.next c.scalars.units c.scalars.scalars _ _ c.scalars.invariant c.scalars-test.true
+    c.pass_lead-end.ensures.passes c.pass_lead-end.ensures.few
 
 pub returns : goal.returns
 returns g c =
