@@ -5,8 +5,9 @@ ghost use Rattle.crumbs.specs.Fitting.{IsCrumbList, IsListOf, Matches, IsAmiss};
 
 use crate::count_word::{is_utf16, units_in};
 use crate::crumb::word_of_crumb;
-use crate::decoding::{units_of_width, width_at};
+use crate::decoding::width_at;
 use slot_model::Attach;
+use word_units::units_of_width;
 
 /// The sides that a heap of texts takes: to words that hold a text in UTF-8 the list of its breadcrumbs, one at each `STRIDE`-th
 /// UTF-16 unit, and nothing to others.

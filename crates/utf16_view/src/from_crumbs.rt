@@ -2,6 +2,8 @@
 ghost use Rattle.std.specs.Prelude.{◌≡◌, ℕ, ◌+◌, ◌*◌, ◌/◌, ◌^◌, ◌<◌, ◌≤◌, true, false, Some, IfOk, IfErr};
 ghost use Rattle.rounding.specs.Resolving.{reads_other};
 ghost use Rattle.text_spec.specs.Crumbs.{size16};
+ghost use Rattle.index_words.specs.Fields.{position_of};
+ghost use Rattle.crumbs.specs.Searching.{IsLastCrumb, words_to_unit, words_to_byte};
 ghost use Rattle.text_spec.specs.declared.encoding.Encoding.TheVariants.{Utf8, Utf16};
 ghost use Rattle.unit_views.specs.declared.view.View.TheVariants.{Units};
 ghost use Rattle.unit_views.specs.Elements.{element_count, element_offset, element_index, IsOutOfRange};
@@ -45,8 +47,9 @@ pub(crate) fn index_from_crumb<T: Text, L: Ledger>(
       high = element_count (Units Utf16) (T.whole t.old) (T.first t.old) (T.end t.old);
     }) }
     ensures kept { t.new ≡ t.old }
-    ensures cost { steps.new ≤ steps.old + 2 * T.STRIDE }
-    ensures counted { IfOk result (λ r. 2 * steps.old + offset + 3 ≤ 2 * steps.new + offset / T.STRIDE * T.STRIDE) }
+    ensures cost { IfOk result (λ r. steps.new ≡ steps.old + words_to_unit (T.whole t.old) T.STRIDE offset) }
+    ensures few { steps.new ≤ steps.old + T.STRIDE + 2 }
+    ensures short { IfErr result (λ out. steps.new ≡ steps.old + 1) }
 {
     let _known = t.crumbs_known();
     match crumbs::index_of_offset(t, offset, steps) {
@@ -67,8 +70,11 @@ pub(crate) fn offset_from_crumb<T: Text, L: Ledger>(
     ensures offset { IfOk result (λ offset. element_offset (Units Utf16) (T.storage t.old) (T.whole t.old) (T.first t.old) (T.end t.old) i ≡ Some offset) }
     ensures refused { IfErr result (IsOutOfRange (Units Utf16) (T.storage t.old) (T.whole t.old) (T.first t.old) (T.end t.old) i) }
     ensures kept { t.new ≡ t.old }
-    ensures cost { (digits : ℕ) → size16 (T.whole t.old) / T.STRIDE < 2 ^ digits → steps.new ≤ steps.old + 2 * T.STRIDE + 2 + digits }
-    ensures counted { IfOk result (λ offset. steps.old + 2 ≤ steps.new) }
+    ensures cost { (m crumb digits : ℕ) → IsLastCrumb (T.whole t.old) T.STRIDE i m crumb → size16 (T.whole t.old) / T.STRIDE < 2 ^ digits
+        → steps.new ≤ steps.old + words_to_byte (T.whole t.old) m (position_of i) + 2 + digits }
+    ensures counted { IfOk result (λ offset. (m crumb digits : ℕ) → IsLastCrumb (T.whole t.old) T.STRIDE i m crumb → 2 ^ digits ≤ size16 (T.whole t.old) / T.STRIDE + 1
+        → steps.old + words_to_byte (T.whole t.old) m (position_of i) + 2 + digits ≤ steps.new) }
+    ensures few { (digits : ℕ) → size16 (T.whole t.old) / T.STRIDE < 2 ^ digits → steps.new ≤ steps.old + T.STRIDE + 2 + digits }
 {
     let _known = t.crumbs_known();
     let position = i.position();

@@ -1,6 +1,8 @@
 //! A text as code units of UTF-16 (The Unicode Standard, section 3.9, D91).
 ghost use Rattle.std.specs.Char.Escape.{encode_utf16};
 ghost use Rattle.text_spec.specs.Crumbs.{size16};
+ghost use Rattle.index_words.specs.Fields.{position_of};
+ghost use Rattle.crumbs.specs.Searching.{IsLastCrumb, words_to_unit, words_to_byte};
 ghost use Rattle.text_spec.specs.Offsets.{start, len_utf16};
 ghost use Rattle.text_spec.specs.Views.{width_in, part};
 ghost use Rattle.unit_views.specs.Spots.{IsSpot, spot_offset};
@@ -188,8 +190,8 @@ pub fn distance<T: Text, L: Ledger>(
 /// The index of the code unit with an offset, which may be the number of code units.
 ///
 /// Refused exactly where the offset is above that number, with the offset, 0 and that number. Where the text is marked ASCII no word
-/// is read. Where breadcrumbs are known, two and at least one for two code units from the breadcrumb on, at most twice as many as their
-/// distance is; else in UTF-8 storage at most two a scalar in one pass up to the code unit, and in UTF-16 storage at most the two beside it.
+/// is read. Where breadcrumbs are known, the length, the breadcrumb before the offset and once each word in which a scalar begins from
+/// there to the offset, at most two more than the distance of breadcrumbs; else in UTF-8 storage at most two a scalar in one pass up to the code unit, and in UTF-16 storage at most the two beside it.
 pub fn index_of_offset<T: Text, L: Ledger>(
     t: &mut T,
     offset: u64,
@@ -204,9 +206,10 @@ pub fn index_of_offset<T: Text, L: Ledger>(
       high = element_count (Units Utf16) (T.whole t.old) (T.first t.old) (T.end t.old);
     }) }
     ensures kept { t.new ≡ t.old }
-    ensures crumbs { T.knows_crumbs t.old ≡ true → 1 ≤ T.STRIDE → steps.new ≤ steps.old + 2 * T.STRIDE }
+    ensures crumbs { T.knows_crumbs t.old ≡ true → 1 ≤ T.STRIDE → steps.new ≤ steps.old + T.STRIDE + 2 }
     ensures counted { T.knows_crumbs t.old ≡ true → 1 ≤ T.STRIDE → T.marked_ascii t.old ≡ false
-        → IfOk result (λ r. 2 * steps.old + offset + 3 ≤ 2 * steps.new + offset / T.STRIDE * T.STRIDE) }
+        → IfOk result (λ r. steps.new ≡ steps.old + words_to_unit (T.whole t.old) T.STRIDE offset) }
+    ensures short { T.knows_crumbs t.old ≡ true → 1 ≤ T.STRIDE → T.marked_ascii t.old ≡ false → IfErr result (λ out. steps.new ≡ steps.old + 1) }
     ensures pass { T.storage t.old ≡ Utf8 → T.knows_crumbs t.old ≡ false → steps.new ≤ steps.old + 2 * (T.end t.old - T.first t.old) }
     ensures near { T.storage t.old ≡ Utf8 → T.knows_crumbs t.old ≡ false → steps.new ≤ steps.old + 2 * offset }
     ensures own { T.storage t.old ≡ Utf16 → steps.new ≤ steps.old + 2 }
@@ -221,8 +224,9 @@ pub fn index_of_offset<T: Text, L: Ledger>(
 /// The offset of the code unit that an index is rounded down to.
 ///
 /// Refused exactly where `resolve` refuses the index, with its numbers. Where the text is marked ASCII no word is read. Where
-/// breadcrumbs are known and the index is read in bytes, two words, and at most one for each binary digit of the number of breadcrumbs
-/// and twice as many as their distance is; else at most two a scalar in one pass up to the code unit, at most four beside it, and those that
+/// breadcrumbs are known and the index is read in bytes, the length and the breadcrumb before the index, at most one word for each binary
+/// digit of the number of the last breadcrumb to find it, and once each word in which a scalar begins from there to the index, at most as
+/// many as the distance of breadcrumbs; else at most two a scalar in one pass up to the code unit, at most four beside it, and those that
 /// resolving an index of the other encoding reads.
 pub fn offset_of_index<T: Text, L: Ledger>(
     t: &mut T,
@@ -233,9 +237,13 @@ pub fn offset_of_index<T: Text, L: Ledger>(
     ensures refused { IfErr result (IsOutOfRange (Units Utf16) (T.storage t.old) (T.whole t.old) (T.first t.old) (T.end t.old) i) }
     ensures kept { t.new ≡ t.old }
     ensures crumbs { T.knows_crumbs t.old ≡ true → 1 ≤ T.STRIDE → reads_other (T.storage t.old) i ≡ false → (digits : ℕ)
-        → size16 (T.whole t.old) / T.STRIDE < 2 ^ digits → steps.new ≤ steps.old + 2 * T.STRIDE + 2 + digits }
+        → size16 (T.whole t.old) / T.STRIDE < 2 ^ digits → steps.new ≤ steps.old + T.STRIDE + 2 + digits }
+    ensures walked { T.knows_crumbs t.old ≡ true → 1 ≤ T.STRIDE → reads_other (T.storage t.old) i ≡ false → (m crumb digits : ℕ)
+        → IsLastCrumb (T.whole t.old) T.STRIDE i m crumb → size16 (T.whole t.old) / T.STRIDE < 2 ^ digits
+        → steps.new ≤ steps.old + words_to_byte (T.whole t.old) m (position_of i) + 2 + digits }
     ensures counted { T.knows_crumbs t.old ≡ true → 1 ≤ T.STRIDE → T.marked_ascii t.old ≡ false → reads_other (T.storage t.old) i ≡ false
-        → IfOk result (λ offset. steps.old + 2 ≤ steps.new) }
+        → IfOk result (λ offset. (m crumb digits : ℕ) → IsLastCrumb (T.whole t.old) T.STRIDE i m crumb → 2 ^ digits ≤ size16 (T.whole t.old) / T.STRIDE + 1
+        → steps.old + words_to_byte (T.whole t.old) m (position_of i) + 2 + digits ≤ steps.new) }
     ensures cost { T.knows_crumbs t.old ≡ false → steps.new ≤ steps.old + 2 * length (T.whole t.old) + 2 * (T.end t.old - T.first t.old) + 4 }
     ensures across { reads_other (T.storage t.old) i ≡ true → steps.new ≤ steps.old + 2 * length (T.whole t.old) + 2 * (T.end t.old - T.first t.old) + 4 }
     ensures near { T.knows_crumbs t.old ≡ false → reads_other (T.storage t.old) i ≡ false → steps.new ≤ steps.old + 2 * (T.end t.old - T.first t.old) + 4 }

@@ -11,7 +11,6 @@ use Rattle.std.specs.Option.{unwrap_or}
 use Rattle.std.proofs.str.Utf16.{lone_unit_char_low, lone_unit_char_high}
 use Rattle.text_spec.specs.Packed.{byte_of, unit_of, units_of, denoted_text, IsPair}
 use Rattle.text_spec.specs.Views.{size_in}
-use Rattle.text_spec.proofs.Widths.{len16_cases, len8_pair}
 use Rattle.word_units.specs.Running.{PassesRun}
 use Rattle.word_units.specs.Walking.{Passes}
 use Rattle.word_units.proofs.Passing.{passes}
@@ -60,20 +59,6 @@ ascii_byte w none (suc (suc (suc (suc (suc zero))))) h = omega (arith, ascii_byt
 ascii_byte w none (suc (suc (suc (suc (suc (suc zero)))))) h = omega (arith, ascii_bytes 8 w none 6 (omega arith))
 ascii_byte w none (suc (suc (suc (suc (suc (suc (suc zero))))))) h = omega (arith, ascii_bytes 8 w none 7 (omega arith))
 ascii_byte w none (suc (suc (suc (suc (suc (suc (suc (suc j)))))))) h = absurd (omega arith)
-
--- ---- how many UTF-16 units a scalar has, by its bytes
-pub units_by_width : (c units : ℕ) → (len_utf8 c ≡ 4 → units ≡ 2) → (len_utf8 c < 4 → units ≡ 1) → len_utf8 c ≤ 4 → units ≡ len_utf16 c
-units_by_width c units pair one most =
-    ⊎_elim
-    (λ low.
-    let few : len_utf8 c < 4 =
-    ⊎_elim (λ (a : c < 128). let e : len_utf8 c ≡ 1 = cond-true _ _ _ (lt-ltb c 128 a) in omega arith)
-    (λ (a : 128 ≤ c). ⊎_elim (λ (d : c < 2048). let e : len_utf8 c ≡ 2 = cond-false _ _ _ (le-ltb c 128 a) ∙ cond-true _ _ _ (lt-ltb c 2048 d) in omega arith)
-    (λ (d : 2048 ≤ c). let e : len_utf8 c ≡ 3 = cond-false _ _ _ (le-ltb c 128 a) ∙ cond-false _ _ _ (le-ltb c 2048 d) ∙ cond-true _ _ _ (lt-ltb c 65536 low.0) in omega arith)
-    (cases_lt c 2048)) (cases_lt c 128) in
-    one few ∙ sym low.1)
-    (λ high. pair (len8_pair c high.1) ∙ sym high.1)
-    (len16_cases c)
 
 -- ---- one scalar
 pub one_run : (e : Encoding) (b : List ℕ) (at most next units : ℕ) → Passes e b at next units → PassesRun e b at most next units 1
@@ -142,14 +127,13 @@ module _ (e : Encoding) (ws : List ℕ) (n : ℕ) (b : List ℕ) (is8 : e ≡ Ut
   pub lead_passes : (at word lead width units : ℕ) → at < size_in Utf8 b → start len_utf8 b (down len_utf8 b at) ≡ at
       → word ≡ get_or ws (at / 8) 0 → lead ≡ word / 2 ^ (8 * (at % 8)) % 256
       → (lead < 128 → width ≡ 1) → (128 ≤ lead → lead < 224 → width ≡ 2) → (224 ≤ lead → lead < 240 → width ≡ 3) → (240 ≤ lead → width ≡ 4)
-      → (width ≡ 4 → units ≡ 2) → (width < 4 → units ≡ 1) → Passes Utf8 b at (at + width) units
-  lead_passes at word lead width units inside boundary here is w1 w2 w3 w4 pair one =
+      → ((scalar : ℕ) → width ≡ len_utf8 scalar → units ≡ len_utf16 scalar) → Passes Utf8 b at (at + width) units
+  lead_passes at word lead width units inside boundary here is w1 w2 w3 w4 takes =
       let told = told8 e ws n b at is8 long denotes inside boundary in
       let c = get_or b (down len_utf8 b at) 0 in
       let byte : lead ≡ byte_of ws at = is ∙ ap (λ w. w / 2 ^ (8 * (at % 8)) % 256) here in
       let wide : width ≡ len_utf8 c = width-is ws at c lead told.stands byte width w1 w2 w3 w4 in
-      passes Utf8 b at (at + width) units inside boundary (ap (λ k. at + k) wide)
-      (units_by_width c units (λ h. pair (wide ∙ h)) (λ h. one (omega (arith, wide, h))) told.few)
+      passes Utf8 b at (at + width) units inside boundary (ap (λ k. at + k) wide) (takes c wide)
 
   -- ---- eight scalars of ASCII
   module _ (at word : ℕ) (fits : at + 8 ≤ size_in Utf8 b) (first : at % 8 ≡ 0) (here : word ≡ get_or ws (at / 8) 0) (none : bit_and word 0x8080808080808080 ≡ 0)

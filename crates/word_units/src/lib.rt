@@ -24,6 +24,7 @@ pub use bounds::OutOfBounds;
 pub use content_words::{byte_word, unit_or_zero, unit_word};
 pub use fill::{fill_backward, fill_forward};
 pub use floor::boundary_at_or_before;
+pub use packing::{units_of_width, width_of_lead};
 pub use reading::{byte_at, unit_at};
 pub use run::pass_run;
 pub use scalar::scalar_at;

@@ -3,6 +3,7 @@ ghost use Rattle.std.specs.Prelude.{◌≡◌, ◌≢◌, ◌+◌, ◌-◌, ◌*
 ghost use Rattle.std.specs.Char.{len_utf8};
 ghost use Rattle.std.specs.Option.{unwrap_or};
 ghost use Rattle.std.specs.Char.Utf16.{lone_unit_char, surrogate_pair_char};
+ghost use Rattle.text_spec.specs.Offsets.{len_utf16};
 ghost use Rattle.text_spec.specs.Packed.{byte_of, unit_of, IsPair};
 
 /// The byte at place `p` of the text, out of the word that holds it.
@@ -32,7 +33,7 @@ pub(crate) fn byte_of_two(near: u64, far: u64, p: u64, q: u64) -> u8
 }
 
 /// How many bytes the scalar takes whose UTF-8 begins with `lead` (The Unicode Standard, table 3-6).
-pub(crate) fn width_of_lead(lead: u8) -> u32
+pub fn width_of_lead(lead: u8) -> u32
     ensures one { lead < 128 → result ≡ 1 }
     ensures two { 128 ≤ lead → lead < 224 → result ≡ 2 }
     ensures three { 224 ≤ lead → lead < 240 → result ≡ 3 }
@@ -51,12 +52,11 @@ pub(crate) fn width_of_lead(lead: u8) -> u32
     }
 }
 
-/// How many units of UTF-16 a scalar takes whose UTF-8 takes `width` bytes (The Unicode Standard, section 3.9, D91, D92).
-pub(crate) fn units_of_width(width: u32) -> u64
-    ensures pair { width ≡ 4 → result ≡ 2 }
-    ensures one { width < 4 → result ≡ 1 }
-    ensures few { 1 ≤ width → result ≤ width }
-    ensures some { 1 ≤ result }
+/// How many UTF-16 units a scalar takes whose UTF-8 takes `width` bytes (The Unicode Standard, section 3.9, D91, D92).
+pub fn units_of_width(width: u64) -> u64
+    ensures units { (scalar : ℕ) → width ≡ len_utf8 scalar → result ≡ len_utf16 scalar }
+    ensures few { (1 ≤ result) × (result ≤ 2) }
+    ensures within { 1 ≤ width → result ≤ width }
 {
     if width == 4 { 2 } else { 1 }
 }

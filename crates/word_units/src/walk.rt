@@ -52,6 +52,6 @@ pub fn pass_lead<T: Text>(t: &T, word: u64, at: u64) -> (u64, u64)
     ensures few { at + result.1 ≤ result.0 }
 {
     let _count = t.count();
-    let width = width_of_lead(byte_in(word, at));
-    (at + width as u64, units_of_width(width))
+    let width = width_of_lead(byte_in(word, at)) as u64;
+    (at + width, units_of_width(width))
 }

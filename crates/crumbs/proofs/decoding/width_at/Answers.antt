@@ -10,10 +10,10 @@ pub returns-in-Ok : goal.returns-in-Ok
 returns-in-Ok c =
     let w = c.width_of_lead-width.ensures in
     begins c.args.content.now c.args.count c.args.p c.requires.inside _ _ _ _ c.byte_or_zero-lead.ensures c.byte_or_zero.ensures c.byte_or_zero-2.ensures c.byte_or_zero-3.ensures
-    c.width_of_lead-width.result w.most.0 w.most.1 c.if-p-width.false w.one w.two w.three w.four c.in-Ok.ensures.cases.1
+    c.width_of_lead-width.result w.some w.most c.if-p-width.false w.one w.two w.three w.four c.in-Ok.ensures.cases.1
 
 pub returns-in-Err : goal.returns-in-Err
 returns-in-Err c =
     let w = c.width_of_lead-width.ensures in
     none_begins c.args.content.now c.args.count c.args.p c.requires.inside _ _ _ _ c.byte_or_zero-lead.ensures c.byte_or_zero.ensures c.byte_or_zero-2.ensures c.byte_or_zero-3.ensures
-    c.width_of_lead-width.result w.most.0 w.most.1 c.if-p-width.false w.one w.two w.three w.four c.in-Err.ensures.cases.0
+    c.width_of_lead-width.result w.some w.most c.if-p-width.false w.one w.two w.three w.four c.in-Err.ensures.cases.0
