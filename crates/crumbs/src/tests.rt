@@ -337,7 +337,7 @@ fn offset_of_place<const DISTANCE: usize>(
     Some(offset_uncounted::<Sampled<DISTANCE>, Brand>(t, i, Blank::new(1)))
 }
 
-/// The units of the scalar that begins at byte `p` behind `unit` units are found there, by at most two words a unit of the stride.
+/// The units of the scalar that begins at byte `p` behind `unit` units are found there, by at most two words more than the stride.
 fn check_units<const DISTANCE: usize>(
     rt: &impl Abort,
     t: &mut Sampled<DISTANCE>,
@@ -357,7 +357,7 @@ fn check_units<const DISTANCE: usize>(
             "{unit} and {past} at {DISTANCE}"
         );
         let reads = t.take_reads();
-        let most = (DISTANCE as u64).wrapping_mul(2);
+        let most = (DISTANCE as u64).wrapping_add(2);
         assert!(rt;
             reads <= most,
             "{reads} words for unit {unit} and {past} at {DISTANCE}"
@@ -391,10 +391,7 @@ fn check_byte<const DISTANCE: usize>(
             "{q}, {transcoded} at {DISTANCE}"
         );
         let reads = t.take_reads();
-        let most = (DISTANCE as u64)
-            .wrapping_mul(2)
-            .wrapping_add(2)
-            .wrapping_add(digits);
+        let most = (DISTANCE as u64).wrapping_add(2).wrapping_add(digits);
         assert!(rt; reads <= most, "{reads} words for byte {q} at {DISTANCE}");
     }
 }
@@ -488,8 +485,7 @@ fn check_reads(rt: &impl Abort, t: &mut Sampled<64>, offsets: &[Offset], places:
     }
 }
 
-/// Two words for an offset, three or four for an index, and one for each scalar of the walk but two for the pair, which stands in two
-/// words.
+/// Two words for an offset, three or four for an index, and each word in which a scalar of the walk begins.
 #[test]
 fn questions_read_so_many_words(rt: HostRuntime) -> Result<(), OutOfMemory> {
     let alloc = rt.alloc();
@@ -505,22 +501,22 @@ fn questions_read_so_many_words(rt: HostRuntime) -> Result<(), OutOfMemory> {
         &[
             (0, Some(5), 2),
             (1, Some(131077), 3),
-            (63, Some(8257541), 65),
+            (63, Some(8257541), 18),
             (64, Some(8273924), 2),
-            (65, Some(8519685), 2),
-            (127, Some(16646149), 64),
+            (65, Some(8519685), 4),
+            (127, Some(16646149), 19),
             (128, Some(16777221), 2),
             (129, None, 1),
         ],
         &[
             (0, 0, 0, 4),
             (1, 0, 0, 4),
-            (126, 0, 63, 68),
-            (126, 1, 64, 6),
-            (126, 2, 63, 6),
-            (129, 0, 63, 6),
-            (130, 0, 65, 7),
-            (254, 0, 127, 69),
+            (126, 0, 63, 19),
+            (126, 1, 64, 5),
+            (126, 2, 63, 5),
+            (129, 0, 63, 5),
+            (130, 0, 65, 6),
+            (254, 0, 127, 21),
             (256, 0, 128, 4),
         ],
     );
