@@ -1,5 +1,5 @@
 -- One scalar more of a walk, and one word more.
-use Rattle.std.proofs.Common.{◌≡◌, refl, sym, ap, ◌∙◌, ℕ, suc, ◌+◌, ◌-◌, ◌*◌, ◌/◌, ◌<◌, ◌≤◌, ◌⊎◌, inl, inr, ⊎_elim, true, false, List, length, arith}
+use Rattle.std.proofs.Common.{◌≡◌, sym, ap, ◌∙◌, ℕ, suc, ◌+◌, ◌-◌, ◌*◌, ◌/◌, ◌<◌, ◌≤◌, ◌⊎◌, inl, inr, ⊎_elim, true, false, List, length, arith}
 use Rattle.std.proofs.lemmas.Bool.{cases_lt, ltb-true, ltb-false}
 use Rattle.std.specs.Char.{len_utf8}
 use Rattle.text_spec.specs.declared.encoding.Encoding.TheVariants.{Utf8}
@@ -86,7 +86,7 @@ module _ (t : List ℕ) (limit : Limit) (at begins units end takes : ℕ) (l : S
             takes_are = omega (arith, s.is_more, l.reaches.offset, ap (start len_utf16 t) is, ap (λ k. start len_utf16 t (suc k)) is);
           },
           near,
-          omega (arith, is, s.inside)
+          omega (arith, is, s.inside),
         );
         passed = λ none. absurd (omega (arith, p.some, none));
       }
@@ -104,7 +104,7 @@ scan_ends t limit at begins units stop l ahead past ends =
       passed = λ _. (
         later,
         l.last later,
-        ⊎_elim (λ h. inl (omega (arith, h, past, l.within))) (λ h. inr (omega (arith, h, past, l.near))) ends
+        ⊎_elim (λ h. inl (omega (arith, h, past, l.within))) (λ h. inr (omega (arith, h, past, l.near))) ends,
       );
     }
 
@@ -139,8 +139,7 @@ module _ (t : List ℕ) (limit : Limit) (first at units begins reached takes : �
       × (start len_utf8 t (down len_utf8 t begins - 1) / 8 ≡ start len_utf8 t (down len_utf8 t at) / 8)
   walk_on none =
       let p = s.passed none in
-      let more = later p.0 in
-      (
+      let more = later p.0 in (
         record {
           reaches = s.reaches;
           within = s.within;
@@ -149,7 +148,7 @@ module _ (t : List ℕ) (limit : Limit) (first at units begins reached takes : �
           fresh = λ _ below. ⊎_elim (λ h. absurd (omega (arith, h, below))) (λ h. omega (arith, h, p.1)) p.2;
         },
         more,
-        omega (arith, p.1, w.reaches.boundary)
+        omega (arith, p.1, w.reaches.boundary),
       )
 
 -- at the end of the text no scalar covers the limit
@@ -157,13 +156,12 @@ pub walk_ends : (t : List ℕ) (limit : Limit) (first at units : ℕ) → Walked
     → (Stands t (number_at t limit) at units 0) × (down len_utf8 t at ≡ length t) × (number_at t limit ≡ length t)
 walk_ends t limit first at units w past =
     let last : down len_utf8 t at ≡ length t = down-end len_utf8 t at past in
-    let is : number_at t limit ≡ length t = omega (arith, last, w.before, number-most t limit) in
-    (
+    let is : number_at t limit ≡ length t = omega (arith, last, w.before, number-most t limit) in (
       record {
         begins_at = omega (arith, w.reaches.boundary, ap (start len_utf8 t) last, ap (start len_utf8 t) is);
         units_are = omega (arith, w.reaches.offset, ap (start len_utf16 t) last, ap (start len_utf16 t) is);
         takes_are = omega (arith, ap (start len_utf16 t) is, start-le len_utf16 t (suc (number_at t limit)));
       },
       last,
-      is
+      is,
     )

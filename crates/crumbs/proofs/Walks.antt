@@ -1,6 +1,6 @@
 -- Walks from a breadcrumb.
 use Rattle.std.proofs.Common.{◌≡◌, refl, sym, ap, subst, ◌∙◌, ℕ, zero, suc, ◌+◌, ◌-◌, ◌*◌, ◌/◌, ◌<◌, ◌≤◌, ◌==◌, ◌&&◌, ◌⊎◌, ⊎_elim, Bool, true, false, cond, nat_lt, List, length, get_or, arith}
-use Rattle.std.proofs.lemmas.Bool.{cases_lt, cases_eq, cond-true, and_parts, eq-eqb, eqb-true, lt-ltb, ltb-true}
+use Rattle.std.proofs.lemmas.Bool.{cases_lt, cond-true, and_parts, eq-eqb, eqb-true, lt-ltb, ltb-true}
 use Rattle.std.proofs.Math.Nat.{suc-mul}
 use Rattle.std.specs.Char.{len_utf8}
 use Rattle.text_spec.specs.declared.encoding.Encoding.TheVariants.{Utf8}
@@ -9,8 +9,8 @@ use Rattle.text_spec.specs.Offsets.{len_utf16, start, down}
 use Rattle.text_spec.specs.Rounding.{kept_offset, other_floor, other_offset}
 use Rattle.text_spec.specs.Views.{size_in}
 use Rattle.text_spec.proofs.Downward.{start-down, down-length, down-greatest}
-use Rattle.text_spec.proofs.Walk.{start-zero, start-suc, start-le, down-next, down-unique, down-start, down-end}
-use Rattle.text_spec.proofs.Widths.{len16_some, len16_most, len8_some, len8_pair}
+use Rattle.text_spec.proofs.Walk.{start-zero, start-suc, start-le, down-next, down-start, down-end}
+use Rattle.text_spec.proofs.Widths.{len16_some, len16_most, len8_some}
 use Rattle.index_words.specs.Fields.{position_of, transcoded_of, place_of}
 use Rattle.word_units.specs.Walking.{Passes}
 use Rattle.rounding.specs.Resolving.{Reaches, index_place}

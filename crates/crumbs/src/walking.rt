@@ -56,7 +56,13 @@ pub fn index_of_offset<T: Text, L: Ledger>(
     }
     // A breadcrumb on the second half of a pair: its scalar begins a unit before it.
     let past = u64::from(crumb.transcoded());
-    let scalar = scalar_over(t, crumb.position(), begun - past, Limit::Unit(offset), steps);
+    let scalar = scalar_over(
+        t,
+        crumb.position(),
+        begun - past,
+        Limit::Unit(offset),
+        steps,
+    );
     Ok(index_of_crumb(scalar.begins, offset - scalar.units))
 }
 
@@ -83,7 +89,13 @@ pub fn offset_of_index<T: Text, L: Ledger>(t: &mut T, i: Index, steps: &mut Step
     let (unit, crumb) = near(t, i, steps);
     let past = u64::from(crumb.transcoded());
     let position = i.position();
-    let scalar = scalar_over(t, crumb.position(), unit - past, Limit::Byte(position), steps);
+    let scalar = scalar_over(
+        t,
+        crumb.position(),
+        unit - past,
+        Limit::Byte(position),
+        steps,
+    );
     let passed = u64::from(i.transcoded());
     if scalar.begins == position && passed < scalar.takes {
         return scalar.units + passed;

@@ -1,7 +1,7 @@
 -- Eight bytes of ASCII, and one scalar by its lead byte.
 use Rattle.std.proofs.Common.{◌≡◌, refl, sym, ap, subst, ◌∙◌, ℕ, zero, suc, ◌+◌, ◌-◌, ◌*◌, ◌/◌, ◌%◌, ◌^◌, ◌<◌, ◌≤◌, inl, inr, ⊎_elim, List, get_or, arith, Some}
 use lib.Bits.{bit_and, and_block}
-use Rattle.std.proofs.lemmas.Bool.{cases_lt, cond-true, cond-false, lt-ltb, le-ltb}
+use Rattle.std.proofs.lemmas.Bool.{cases_lt, cond-true, lt-ltb}
 use Rattle.std.specs.Char.{len_utf8}
 use Rattle.text_spec.specs.declared.encoding.Encoding.{Encoding}
 use Rattle.text_spec.specs.declared.encoding.Encoding.TheVariants.{Utf8, Utf16}

@@ -1,5 +1,5 @@
-use Rattle.std.proofs.Common.{◌≡◌, ◌≢◌, ℕ, sym, ap, subst, ◌∙◌, ◌+◌, ◌-◌, ◌*◌, ◌/◌, ◌≤◌, ◌==◌, if◌then◌else◌, arith}
-use Rattle.std.proofs.lemmas.Bool.{cond-true, cond-false, eq-eqb, ne_eqb}
+use Rattle.std.proofs.Common.{◌≡◌, ◌≢◌, ℕ, sym, ap, subst, ◌∙◌, ◌+◌, ◌-◌, ◌*◌, ◌/◌, ◌≤◌, arith}
+use Rattle.std.proofs.lemmas.Bool.{cond-false, ne_eqb}
 use Rattle.std.specs.Char.{len_utf8}
 use Rattle.text_spec.specs.declared.encoding.Encoding.TheVariants.{Utf8}
 use Rattle.text_spec.specs.Crumbs.{size16, index16}
@@ -110,6 +110,7 @@ pub returns-clause-index : goal.returns-clause-index
 returns-clause-index g c =
     let b = g.T.Text.whole c.args.t.now in
     let over = ends g c.args.t.now _ c.args.offset _ _ _ (c.for_offset-crumb.ensures.kept ∙ c.length16-high.ensures.kept)
-    (omega (arith, c.if-offset-high.false, c.length16-high.ensures.value)) c.scalar_over-scalar.ensures.stands in
-    (omega (arith, c.if-offset-high.false, c.length16-high.ensures.value),
-    c.index_of_crumb.ensures ∙ index_over b c.args.offset _ _ _ over.0)
+    (omega (arith, c.if-offset-high.false, c.length16-high.ensures.value)) c.scalar_over-scalar.ensures.stands in (
+      omega (arith, c.if-offset-high.false, c.length16-high.ensures.value),
+      c.index_of_crumb.ensures ∙ index_over b c.args.offset _ _ _ over.0,
+    )

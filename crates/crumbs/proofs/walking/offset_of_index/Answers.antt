@@ -8,7 +8,7 @@ use Rattle.rounding.specs.Resolving.{Reaches}
 use Rattle.crumbs.specs.Searching.{IsLastCrumb, words_through, words_to_byte}
 use Rattle.crumbs.specs.Scanning.{Stands}
 use Rattle.crumbs.proofs.Crumbing.{size16-le}
-use Rattle.crumbs.proofs.Walks.{FromCrumb, to_byte, last_unique, offset_within, offset_else}
+use Rattle.crumbs.proofs.Walks.{to_byte, last_unique, offset_within, offset_else}
 use Rattle.crumbs.proofs.WordsRead.{through-most}
 use Rattle.text_spec.proofs.Walk.{start-le}
 use Rattle.crumbs.proofs.walking.offset_of_index.Given.{Over}

@@ -1,4 +1,3 @@
-use Rattle.std.proofs.Common.{arith}
 use Rattle.word_units.proofs.Running.{led_none, led_on, led_all}
 use Rattle.word_units.proofs.run.pass_leads.Goals as goal
 
