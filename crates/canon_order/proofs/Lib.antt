@@ -1,0 +1,5 @@
+mod AsciiCodes
+mod Collecting
+mod Comparing
+mod Copying
+mod Encoded
