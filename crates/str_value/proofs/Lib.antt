@@ -1,4 +1,5 @@
 pub mod Ascii
+pub mod Copied
 pub mod Counting
 pub mod Kept
 pub mod Parts

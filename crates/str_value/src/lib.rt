@@ -9,6 +9,9 @@
 //! Meaning: `specs/Meaning.antt`. Start at `value.rt`.
 #![tactic(auto)]
 
+mod copies;
+#[cfg(test)]
+mod copy_tests;
 mod error;
 mod lengths;
 mod pass;

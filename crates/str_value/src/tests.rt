@@ -231,7 +231,7 @@ fn words(alloc: Global, value: &mut Str) -> Result<Vec<u64>, OutOfMemory> {
 }
 
 /// The UTF-8 of a whole value.
-fn whole(alloc: Global, value: &Str) -> Result<Vec<u8>, OutOfMemory> {
+pub(crate) fn whole(alloc: Global, value: &Str) -> Result<Vec<u8>, OutOfMemory> {
     let (low, high) = (value.low(), value.high());
     value.copy_utf8(alloc, low, high)
 }

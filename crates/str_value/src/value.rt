@@ -28,7 +28,7 @@ pub const MAX_TEXT_BYTES: usize = 16_777_216;
 pub struct Str<'h> {
     pub(crate) object: Object,
     pub(crate) storage: Storage,
-    heap: PhantomData<&'h u64>,
+    pub(crate) heap: PhantomData<&'h u64>,
 }
 
 impl<'h> Model for Str<'h> {
@@ -159,7 +159,7 @@ impl<'h> Str<'h> {
 }
 
 // The value of bytes that are known to be UTF-8.
-fn make<'h>(alloc: Global, bytes: &[u8]) -> Result<Str<'h>, MakeError>
+pub(crate) fn make<'h>(alloc: Global, bytes: &[u8]) -> Result<Str<'h>, MakeError>
     requires { IsUtf8 bytes.now }
     ensures text { IfOk result (λ s. s.text ≡ chars bytes.now) }
     ensures row { IfOk result (λ s. s.row ≡ utf8_row bytes.now) }
@@ -179,7 +179,7 @@ fn make<'h>(alloc: Global, bytes: &[u8]) -> Result<Str<'h>, MakeError>
 }
 
 // The value of at most 15 bytes, which stand in its words; `None` where they are more.
-fn small<'h>(bytes: &[u8]) -> Option<Str<'h>>
+pub(crate) fn small<'h>(bytes: &[u8]) -> Option<Str<'h>>
     requires { IsUtf8 bytes.now }
     ensures found { IsSome result ↔ (length bytes.now ≤ SMALL_CAPACITY) }
     ensures text { IfSome result (λ s. s.text ≡ chars bytes.now) }
@@ -229,7 +229,7 @@ fn own_units<'h>(alloc: Global, units: &[u16]) -> Result<Str<'h>, MakeError>
 }
 
 // Whether all bytes are ASCII, a word at a time.
-fn is_ascii(bytes: &[u8]) -> bool
+pub(crate) fn is_ascii(bytes: &[u8]) -> bool
     ensures { result ≡ rows.is_ascii bytes.now }
 {
     bytes.is_ascii()

@@ -1,0 +1,22 @@
+//! Slices of values: a part of a value's text between two scalar boundaries, as a text of its own.
+//!
+//! A `Sub` holds a copy of its base and the two boundaries, as places in the base's storage. It is a `Text` with the base's words and
+//! the base's positions, so an index of the one is an index of the other; its views, its Characters among them, are those of its own
+//! scalars. `slice` resolves two indices and rounds both down to scalar boundaries; `Sub::to_str` makes a value of the slice's text.
+//!
+//! Meaning: `specs/Slice.antt`, and of `slice` with its refusals `specs/Slicing.antt`. Start at `slicing.rt`. Memory is taken by the copy
+//! of a base that isn't Small, and by a new value. The rules are the project's own, after Swift's substrings.
+#![tactic(auto)]
+
+mod error;
+mod slicing;
+mod sub_text;
+mod sub_value;
+#[cfg(test)]
+mod tests;
+#[cfg(test)]
+mod view_tests;
+
+pub use error::SliceError;
+pub use slicing::slice;
+pub use sub_value::Sub;
