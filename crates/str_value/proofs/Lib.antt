@@ -3,4 +3,7 @@ pub mod Copied
 pub mod Counting
 pub mod Kept
 pub mod Parts
+pub mod Pieces
+pub mod Spliced
+pub mod TwoSteps
 pub mod Unpaired

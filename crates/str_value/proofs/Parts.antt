@@ -25,7 +25,7 @@ use Rattle.text_spec.proofs.Walk.{start-le, start-zero, down-start}
 use Rattle.text_spec.proofs.Widths.{width_some}
 
 -- a later place has no earlier floor
-down-mono : (w : ℕ → ℕ) (t : List ℕ) (a b : ℕ) → a ≤ b → down w t a ≤ down w t b
+pub down-mono : (w : ℕ → ℕ) (t : List ℕ) (a b : ℕ) → a ≤ b → down w t a ≤ down w t b
 down-mono w t a b h = down-greatest w t b (down w t a) (down-length w t a) (omega (arith, start-down w t a, h))
 
 -- ---- in UTF-8
@@ -156,16 +156,16 @@ length-front n t =
 pub part-le : (t : List ℕ) (i j : ℕ) → length (utf8 (part t i j)) ≤ length (utf8 t)
 part-le t i j = omega (arith, length-front i t, length-front (j - i) (drop i t))
 
-scalars-drop : (n : ℕ) (t : List ℕ) → all_scalars t ≡ true → all_scalars (drop n t) ≡ true
+pub scalars-drop : (n : ℕ) (t : List ℕ) → all_scalars t ≡ true → all_scalars (drop n t) ≡ true
 scalars-drop zero t h = h
 scalars-drop (suc n) [] h = h
 scalars-drop (suc n) (c ∷ t) h = scalars-drop n t (and_parts _ _ h).1
 
-both-true : (x y : Bool) → x ≡ true → y ≡ true → (x && y) ≡ true
+pub both-true : (x y : Bool) → x ≡ true → y ≡ true → (x && y) ≡ true
 both-true true y e f = f
 both-true false y e f = e
 
-scalars-take : (n : ℕ) (t : List ℕ) → all_scalars t ≡ true → all_scalars (take n t) ≡ true
+pub scalars-take : (n : ℕ) (t : List ℕ) → all_scalars t ≡ true → all_scalars (take n t) ≡ true
 scalars-take zero t h = refl
 scalars-take (suc n) [] h = h
 scalars-take (suc n) (c ∷ t) h = let parts = and_parts _ _ h in both-true _ _ parts.0 (scalars-take n t parts.1)

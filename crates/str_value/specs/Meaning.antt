@@ -3,6 +3,7 @@
 use Rattle.std.specs.Prelude.{ℕ, List, length, true, false, nat_le, if◌then◌else◌}
 use Rattle.text_spec.specs.declared.encoding.Encoding.{Encoding}
 use Rattle.text_spec.specs.declared.encoding.Encoding.TheVariants.{Utf8, Utf16}
+use Rattle.text_spec.specs.Editing.{replaced}
 use Rattle.text_spec.specs.Offsets.{down}
 use Rattle.text_spec.specs.Views.{width_in, part}
 use Rattle.object_words.specs.Rows.{Row, small, native, literal, foreign, owned, is_ascii}
@@ -27,6 +28,10 @@ storage_of (owned utf16 ascii nfc count) = if utf16 then Utf16 else Utf8
 -- the text between two places of the storage, which are scalar boundaries in its code units
 abbrev pub text_between : Meaning → ℕ → ℕ → List ℕ
 text_between s low high = part s.text (down (width_in (storage_of s.row)) s.text low) (down (width_in (storage_of s.row)) s.text high)
+
+-- the text with another one in place of what lies between two such places
+abbrev pub spliced : Meaning → ℕ → ℕ → List ℕ → List ℕ
+spliced s low high with = replaced s.text (down (width_in (storage_of s.row)) s.text low) (down (width_in (storage_of s.row)) s.text high) with
 
 -- the row of a value that is made of UTF-8, no shared storage being built yet: Small where the bytes fit the two words, Owned elsewhere.
 -- The mark of ASCII is exact, and only ASCII is known to be in NFC (Unicode Standard Annex 15).

@@ -15,7 +15,9 @@ mod copy_tests;
 mod error;
 mod lengths;
 mod pass;
+mod replacing;
 mod small;
+mod splicing;
 mod storage;
 #[cfg(test)]
 mod tests;

@@ -9,3 +9,4 @@ pub mod Units
 pub mod Decoding
 pub mod Indices
 mod RoundingExamples
+pub mod Replacing

@@ -5,3 +5,4 @@ pub mod Packed
 pub mod Views
 pub mod Rounding
 pub mod Crumbs
+pub mod Editing

@@ -1,8 +1,10 @@
 //! What readers look for in the definitions, each law a function with an empty body whose contract is the law.
-ghost use Rattle.std.specs.Prelude.{◌≡◌, ◌+◌, ◌<◌, ◌≤◌, ℕ, List, length, take, Some, true};
+ghost use Rattle.std.specs.Prelude.{◌≡◌, ◌+◌, ◌-◌, ◌<◌, ◌≤◌, ℕ, List, length, take, slice_index, Some, true};
 ghost use Rattle.std.specs.Char.{len_utf8};
+ghost use Rattle.std.specs.List.{splice};
 ghost use Rattle.std.specs.Str.{all_scalars};
 ghost use Rattle.text_spec.specs.Boundaries.{IsScalarBoundary};
+ghost use Rattle.text_spec.specs.Editing.{replaced};
 ghost use Rattle.text_spec.specs.Rounding.{Place, scalar_floor, other_floor, scalar_offset, other_offset, scalar_index, other_index};
 ghost use Rattle.text_spec.specs.Text.{utf8, utf16, decode_utf8, repair};
 ghost use Rattle.text_spec.specs.Offsets.{len_utf16, start, down, IsGreatestStart};
@@ -67,4 +69,21 @@ pub fn other_index_is_inverse()
     ensures index { (own other : ℕ → ℕ) → ((scalar : ℕ) → 0 < own scalar) → ((scalar : ℕ) → 0 < other scalar)
         → (whole : List ℕ) (first high : ℕ) (i : Place) → first ≤ length whole → start own whole first ≤ i.0 → high ≤ start own whole (length whole)
         → other_index own other whole first (other_offset own other whole first (other_floor own other whole high i)) ≡ other_floor own other whole high i }
+{}
+
+/// A text with another one in place of its scalars from number `i` to before number `j` has the scalars before them first, then the
+/// new ones, and then those behind them.
+pub fn replaced_keeps_the_rest()
+    ensures length { (text with : List ℕ) (i j : ℕ) → i ≤ j → j ≤ length text → length (replaced text i j with) + (j - i) ≡ length text + length with }
+    ensures before { (text with : List ℕ) (i j k : ℕ) → i ≤ length text → k < i → slice_index (replaced text i j with) k ≡ slice_index text k }
+    ensures within { (text with : List ℕ) (i j k : ℕ) → i ≤ length text → k < length with
+        → slice_index (replaced text i j with) (i + k) ≡ slice_index with k }
+    ensures behind { (text with : List ℕ) (i j k : ℕ) → i ≤ length text
+        → slice_index (replaced text i j with) (i + length with + k) ≡ slice_index text (j + k) }
+{}
+
+/// Its UTF-8 is that of the old text with the UTF-8 of the new scalars in place of that of the old ones.
+pub fn replaced_is_spliced_in_utf8()
+    ensures bytes { (text with : List ℕ) (i j : ℕ) → utf8 (replaced text i j with)
+        ≡ splice (utf8 text) (start len_utf8 text i) (start len_utf8 text j) (utf8 with) }
 {}

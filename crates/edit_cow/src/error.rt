@@ -1,0 +1,44 @@
+//! Why a value was not edited.
+ghost use Rattle.std.specs.Prelude.{◌≡◌};
+ghost use Rattle.edit_cow.specs.declared.error.EditError.TheVariants as refusal;
+
+use index_words::Index;
+use str_value::MakeError;
+use word_units::OutOfBounds as OutOfRange;
+
+/// Why a value was not edited. It is as it was.
+#[derive(Clone, Copy, Debug, PartialEq, Eq)]
+pub enum EditError {
+    /// An index lies behind the text, the first of two where both do; with its three numbers in the unit that it is read in.
+    OutOfBounds(OutOfRange),
+    /// The scalar boundary that the first index is rounded down to is behind that of the second; both as they were handed in.
+    Reversed { a: Index, b: Index },
+    /// The bytes are not UTF-8 (the Unicode Standard, chapter 3); `valid_up_to` counts the bytes of their longest front that is.
+    NotUtf8 { valid_up_to: usize },
+    /// The new text would have `len` UTF-8 bytes, more than `str_value::MAX_TEXT_BYTES`.
+    TooLong { len: u64 },
+    /// Memory is wanting.
+    OutOfMemory,
+}
+
+impl From<OutOfRange> for EditError {
+    ghost from_gives = { λ out e. e ≡ refusal.OutOfBounds out };
+
+    fn from(out: OutOfRange) -> EditError {
+        EditError::OutOfBounds(out)
+    }
+}
+
+impl From<MakeError> for EditError {
+    ghost use Rattle.edit_cow.specs.Edits.{refusal_of};
+
+    ghost from_gives = { λ m e. e ≡ refusal_of m };
+
+    fn from(refused: MakeError) -> EditError {
+        match refused {
+            MakeError::NotUtf8 { valid_up_to } => EditError::NotUtf8 { valid_up_to },
+            MakeError::TooLong { len } => EditError::TooLong { len },
+            MakeError::OutOfMemory => EditError::OutOfMemory,
+        }
+    }
+}
