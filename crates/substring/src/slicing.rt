@@ -23,8 +23,8 @@ use word_units::{OutOfBounds, Steps, boundary_at_or_before};
 /// Small base, since the slice's copy of the base alone takes memory. At most two words are read for each index, and two more for each
 /// scalar of the base where an index of the other encoding is resolved and the base isn't marked ASCII.
 pub fn slice<'h, L: Ledger>(
-    base: &mut Str<'h>,
     alloc: Global,
+    base: &mut Str<'h>,
     pass: &mut Pass<'h>,
     a: Index,
     b: Index,

@@ -38,7 +38,7 @@ fn cut_with<'h, L: Ledger>(
     requires one { blank.parts ≡ 1 }
 {
     let mut steps = Steps::<L>::from_blank(blank);
-    slice(base, alloc, &mut Pass::none(), a, b, &mut steps)
+    slice(alloc, base, &mut Pass::none(), a, b, &mut steps)
 }
 
 /// The slice between two indices, given as words.
