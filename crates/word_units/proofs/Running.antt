@@ -128,11 +128,11 @@ module _ (e : Encoding) (ws : List ℕ) (n : ℕ) (b : List ℕ) (is8 : e ≡ Ut
       → word ≡ get_or ws (at / 8) 0 → lead ≡ word / 2 ^ (8 * (at % 8)) % 256
       → (lead < 128 → width ≡ 1) → (128 ≤ lead → lead < 224 → width ≡ 2) → (224 ≤ lead → lead < 240 → width ≡ 3) → (240 ≤ lead → width ≡ 4)
       → ((scalar : ℕ) → width ≡ len_utf8 scalar → units ≡ len_utf16 scalar) → Passes Utf8 b at (at + width) units
-  lead_passes at word lead width units inside boundary here is w1 w2 w3 w4 takes =
+  lead_passes at word lead width units inside boundary here is one two three four takes =
       let told = told8 e ws n b at is8 long denotes inside boundary in
       let c = get_or b (down len_utf8 b at) 0 in
       let byte : lead ≡ byte_of ws at = is ∙ ap (λ w. w / 2 ^ (8 * (at % 8)) % 256) here in
-      let wide : width ≡ len_utf8 c = width-is ws at c lead told.stands byte width w1 w2 w3 w4 in
+      let wide : width ≡ len_utf8 c = width-is ws at c lead told.stands byte width one two three four in
       passes Utf8 b at (at + width) units inside boundary (ap (λ k. at + k) wide) (takes c wide)
 
   -- ---- eight scalars of ASCII
