@@ -6,7 +6,8 @@ use Rattle.std.proofs.lemmas.Bool.{le-leb, lt-leb, lt-ltb, le-ltb}
 use Rattle.std.proofs.lemmas.Nat.{le_bytes_8}
 use Rattle.std.proofs.lemmas.List.{length-replicate, length-take-le, take-append-drop, get_or-drop, get_or-append_right}
 use Rattle.object_words.specs.declared.layout.TheConstants.{SMALL_CAPACITY, NATIVE_TOP, FOREIGN_TOP, OWNED_TOP, LITERAL_TOP, SMALL_TOP, SMALL_ASCII_TOP}
-use Rattle.object_words.specs.Rows.{Row, small, native, literal, foreign, owned, Describes, weight, count_word, form_word, small_bytes, small_top, is_ascii}
+use Rattle.object_words.specs.CountWord.{weight, count_word}
+use Rattle.object_words.specs.Rows.{Row, small, native, literal, foreign, owned, Describes, form_word, small_bytes, small_top, is_ascii}
 
 -- two words that are the words of a row
 pub pair : {a b c d : ℕ} → c ≡ a → d ≡ b → ◌≡◌ {A = ℕ × ℕ} (a, b) (c, d)

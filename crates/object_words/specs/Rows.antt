@@ -5,7 +5,8 @@ use Rattle.std.specs.Int.{w64, from_le_bytes}
 use Rattle.std.specs.Str.{IsUtf8}
 use Rattle.object_words.specs.declared.form.Form.{Form}
 use Rattle.object_words.specs.declared.form.Form.TheVariants.{Small, Native, Literal, Foreign, Owned}
-use Rattle.object_words.specs.declared.layout.TheConstants.{SMALL_CAPACITY, WORD_BYTES, ASCII_BIT, NFC_BIT, NATIVE_BIT, TABLE_BIT, UTF16_BIT, COUNT_WIDTH, SLOT_WIDTH, TOP_SHIFT, NATIVE_TOP, FOREIGN_TOP, OWNED_TOP, LITERAL_TOP, SMALL_TOP, SMALL_ASCII_TOP}
+use Rattle.object_words.specs.declared.layout.TheConstants.{SMALL_CAPACITY, WORD_BYTES, SLOT_WIDTH, TOP_SHIFT, NATIVE_TOP, FOREIGN_TOP, OWNED_TOP, LITERAL_TOP, SMALL_TOP, SMALL_ASCII_TOP}
+use Rattle.object_words.specs.CountWord.{IsCount, count_word}
 
 -- whether all code units are ASCII (The Unicode Standard, chapter 3: UTF-8)
 abbrev pub is_ascii : List ℕ → Bool
@@ -24,10 +25,6 @@ pub data Row : Type 0 where
   -- whether UTF-16, whether ASCII, whether known to be in NFC, and the number of code units
   owned : Bool → Bool → Bool → ℕ → Row
 
--- a number of code units that fits word 0
-abbrev pub IsCount : ℕ → Type 0
-IsCount count = count < 2 ^ COUNT_WIDTH
-
 -- the number of a slot or a literal that fits word 1
 abbrev pub IsSlot : ℕ → Type 0
 IsSlot slot = slot < 2 ^ SLOT_WIDTH
@@ -43,15 +40,6 @@ IsRow (native ascii nfc count slot) = Implies ascii nfc × IsCount count × IsSl
 IsRow (literal ascii nfc count number) = Implies ascii nfc × IsCount count × IsSlot number
 IsRow (foreign ascii count slot) = IsCount count × IsSlot slot
 IsRow (owned utf16 ascii nfc count) = Implies ascii nfc × (IsTrue utf16 → Implies nfc ascii) × IsCount count
-
--- what a bit adds to a word
-abbrev pub weight : Bool → ℕ → ℕ
-weight set bit = if set then 2 ^ bit else 0
-
--- word 0 of a value that isn't Small
-abbrev pub count_word : Bool → Bool → Bool → Bool → Bool → ℕ → ℕ
-count_word ascii nfc stored table utf16 count = weight ascii ASCII_BIT + weight nfc NFC_BIT + weight stored NATIVE_BIT
-    + weight table TABLE_BIT + weight utf16 UTF16_BIT + count
 
 -- word 1 of a value that isn't Small
 abbrev pub form_word : ℕ → ℕ → ℕ

@@ -1,4 +1,4 @@
-//! The places and the marks of an object's two words.
+//! The places and the marks of an object's two words, but for those of the count word.
 
 /// The most bytes that a Small value holds.
 pub const SMALL_CAPACITY: usize = 15;
@@ -8,24 +8,6 @@ pub const WORD_BYTES: usize = 8;
 
 /// The bytes of both words.
 pub const OBJECT_BYTES: usize = 16;
-
-/// The bit of word 0 that says "ASCII".
-pub const ASCII_BIT: u32 = 63;
-
-/// The bit of word 0 that says "in NFC".
-pub const NFC_BIT: u32 = 62;
-
-/// The bit of word 0 that says "natively stored".
-pub const NATIVE_BIT: u32 = 61;
-
-/// The bit of word 0 that says "UTF-8 in a row of the table, after its count word".
-pub const TABLE_BIT: u32 = 60;
-
-/// The bit of word 0 that says "UTF-16".
-pub const UTF16_BIT: u32 = 59;
-
-/// How many bits of word 0 hold the number of code units, from bit 0 up.
-pub const COUNT_WIDTH: u32 = 48;
 
 /// How many bits of word 1 hold the number of a slot or a literal, from bit 0 up.
 pub const SLOT_WIDTH: u32 = 32;

@@ -25,12 +25,15 @@
 //! | 58 to 48 | zero | | | | |
 //! | 47 to 0 | number of code units | | | | |
 //!
-//! The numbers of these tables stand in `layout.rt`, once each. Meaning: `specs/Rows.antt`, one definition for
-//! constructors, readers and `check`. Start at `object.rt`. No call takes memory, and all but `Object::small` and
+//! The numbers of word 0 stand in `count_word.rt`, the others in `layout.rt`, once each, and `laws.rt` says them as the
+//! tables do. The words that a text has in a slot, and the row of a literal, begin with such a word 0 too. Meaning:
+//! `specs/Rows.antt`, one definition for constructors, readers and `check`. Start at `object.rt`. No call takes memory, and all but `Object::small` and
 //! `Object::check` are a few instructions with no loop. The layout is the project's own, after Swift's native strings.
 #![tactic(auto)]
 
+pub mod count_word;
 mod form;
+mod form_word;
 pub mod laws;
 mod layout;
 mod object;
@@ -38,7 +41,6 @@ mod said;
 mod small;
 #[cfg(test)]
 mod tests;
-mod words;
 
 pub use form::Form;
 pub use layout::SMALL_CAPACITY;

@@ -1,16 +1,17 @@
 //! The object of a value: made by form, and read.
-ghost use Rattle.std.specs.Prelude.{◌≡◌, ℕ, ◌^◌, ◌<◌, ◌≤◌, ◌↔◌, Bool, true, false, IsSome, IfSome, IsTrue, Some, length};
+ghost use Rattle.std.specs.Prelude.{◌≡◌, ℕ, ◌^◌, ◌<◌, ◌≤◌, ◌↔◌, true, false, IsSome, IfSome, IsTrue, Some, length};
 ghost use Rattle.std.specs.Str.{IsUtf8};
-ghost use Rattle.object_words.specs.Rows.{Row, small, native, literal, foreign, owned, Implies, Describes, IsObject, words_of, form_of, count_of, ascii_of, slot_of};
+ghost use Rattle.object_words.specs.Rows.{Row, small, native, literal, foreign, owned, Implies, Describes, IsObject, form_of, count_of, ascii_of, slot_of};
 
+use crate::count_word::{ASCII_BIT, COUNT_WIDTH, count_word, unit_count};
 use crate::form::Form;
+use crate::form_word::form_word;
 use crate::layout::{
-    ASCII_BIT, COUNT_WIDTH, FOREIGN_TOP, LITERAL_TOP, NATIVE_TOP, OWNED_TOP, SLOT_WIDTH,
-    SMALL_ASCII_TOP, SMALL_CAPACITY, SMALL_COUNTS, SMALL_TOP, TOP_SHIFT, WORD_BYTES,
+    FOREIGN_TOP, LITERAL_TOP, NATIVE_TOP, OWNED_TOP, SLOT_WIDTH, SMALL_ASCII_TOP, SMALL_CAPACITY,
+    SMALL_COUNTS, SMALL_TOP, TOP_SHIFT, WORD_BYTES,
 };
 use crate::said::said_by;
 use crate::small::{small_bytes, word_of};
-use crate::words::{count_word, form_word};
 use std::marker::Model;
 
 /// The two words of a value, as the head of this crate lays them out. Contracts see the pair of words, which is always
@@ -127,7 +128,7 @@ impl Object {
     {
         let top = self.w1 >> TOP_SHIFT;
         if top < SMALL_TOP {
-            self.w0 % (1 << COUNT_WIDTH)
+            unit_count(self.w0)
         } else {
             top % SMALL_COUNTS
         }

@@ -1,11 +1,11 @@
 //! The object that two words from outside would be, if some row had them.
-ghost use Rattle.std.specs.Prelude.{◌≡◌, ℕ, ◌/◌, ◌%◌, ◌^◌, ◌<◌, ◌==◌, List, IsTrue, IsSome, IfSome, Some};
+ghost use Rattle.std.specs.Prelude.{◌≡◌, ℕ, ◌/◌, ◌%◌, ◌^◌, ◌<◌, ◌==◌, List, IsTrue, Some};
 ghost use Rattle.object_words.specs.Rows.{Row, small, Describes, Implies};
 ghost use Rattle.object_words.specs.Rows as rows;
 
+use crate::count_word::{ASCII_BIT, COUNT_WIDTH, NFC_BIT, marks_utf16, unit_count};
 use crate::layout::{
-    ASCII_BIT, COUNT_WIDTH, FOREIGN_TOP, LITERAL_TOP, NATIVE_TOP, NFC_BIT, OWNED_TOP, SLOT_WIDTH,
-    SMALL_COUNTS, SMALL_TOP, TOP_SHIFT, UTF16_BIT,
+    FOREIGN_TOP, LITERAL_TOP, NATIVE_TOP, OWNED_TOP, SLOT_WIDTH, SMALL_COUNTS, SMALL_TOP, TOP_SHIFT,
 };
 use crate::object::Object;
 use crate::small::bytes_of;
@@ -39,8 +39,8 @@ fn counted(w0: u64, w1: u64) -> Option<Object>
 {
     let ascii = bit(w0, ASCII_BIT);
     let nfc = bit(w0, NFC_BIT);
-    let utf16 = bit(w0, UTF16_BIT);
-    let count = w0 % (1 << COUNT_WIDTH);
+    let utf16 = marks_utf16(w0);
+    let count = unit_count(w0);
     let slot = (w1 % (1 << SLOT_WIDTH)) as u32;
     if ascii && !nfc {
         return None;
