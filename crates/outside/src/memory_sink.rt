@@ -1,7 +1,7 @@
 ghost use Rattle.std.specs.Prelude.{◌≡◌, ◌+◌, ◌-◌, ◌<◌, ◌≤◌, ◌↔◌, ◌++◌, min, length, take, IsErr, IfOk, Ok, OnErr, Some};
 ghost use Rattle.outside.specs.Bytes.{WriteGrows};
-ghost use Rattle.outside.specs.Causes.{Rose, counted};
-ghost use Rattle.outside.specs.Memory.{IsListed, faults_after_write};
+ghost use Rattle.outside.specs.Causes.{Rose, counted, faults_after_write};
+ghost use Rattle.outside.specs.Memory.{IsListed};
 
 use crate::faults::{Failed, count_call, raise};
 use crate::writing::Sink;
@@ -72,7 +72,8 @@ impl Sink for MemSink {
         ensures amount { IfOk result (λ n. n ≡ min (length buf.now) (self.old.room - length self.old.written)) }
         ensures fails { IsErr result ↔ IsListed self.old.fails self.old.calls }
         ensures unwritten { OnErr result (self.new.written ≡ self.old.written) }
-        ensures counts { (self.new.calls ≡ counted self.old.calls) × (self.new.faults ≡ faults_after_write result self.old.faults) }
+        ensures calls { self.new.calls ≡ counted self.old.calls }
+        ensures counts { self.new.faults ≡ faults_after_write result self.old.faults }
         ensures same { (self.new.room ≡ self.old.room) × (self.new.fails ≡ self.old.fails) }
     {
         if count_call(&mut self.call_count, &self.failing) {

@@ -1,8 +1,8 @@
 ghost use Rattle.std.specs.Prelude.{◌≡◌, ◌<◌, ◌≤◌, ◌↔◌, min, length, take, IsErr, IfOk, OnErr, Some};
 ghost use Rattle.std.specs.Io.{ReadsAtMost};
 ghost use Rattle.outside.specs.Bytes.{ReadTakes};
-ghost use Rattle.outside.specs.Causes.{Rose, counted};
-ghost use Rattle.outside.specs.Memory.{IsListed, faults_after_read};
+ghost use Rattle.outside.specs.Causes.{Rose, counted, faults_after_read};
+ghost use Rattle.outside.specs.Memory.{IsListed};
 
 use crate::faults::{Failed, count_call, raise};
 use crate::reading::Source;
@@ -66,7 +66,8 @@ impl Source for MemSource {
         ensures cause { OnErr result (Rose self.old.faults self.new.faults) }
         ensures amount { IfOk result (λ n. n ≡ min self.old.piece (min (length buf.old) (length self.old.left))) }
         ensures fails { IsErr result ↔ IsListed self.old.fails self.old.calls }
-        ensures counts { (self.new.calls ≡ counted self.old.calls) × (self.new.faults ≡ faults_after_read result self.old.faults) }
+        ensures calls { self.new.calls ≡ counted self.old.calls }
+        ensures counts { self.new.faults ≡ faults_after_read result self.old.faults }
         ensures same { (self.new.piece ≡ self.old.piece) × (self.new.fails ≡ self.old.fails) }
     {
         if count_call(&mut self.call_count, &self.failing) {
