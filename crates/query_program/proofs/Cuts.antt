@@ -1,5 +1,5 @@
 -- How an input is cut into its whole lines and what stands after the last newline.
-use Rattle.std.proofs.Common.{◌≡◌, refl, sym, ap, ◌∙◌, Bool, true, false, cond, List, [], ◌∷◌, ◌++◌, ℕ, zero, suc, ◌+◌, ◌-◌, length, take, drop, get_or, ◌==◌, arith, ◌<◌, ◌≤◌, Option, Some, None, subst, rules, append_assoc, append-nil, All}
+use Rattle.std.proofs.Common.{◌≡◌, refl, sym, ap, ◌∙◌, Bool, true, false, cond, List, [], ◌∷◌, ◌++◌, ℕ, zero, suc, ◌+◌, ◌-◌, length, take, drop, get_or, ◌==◌, arith, ◌<◌, ◌≤◌, Option, Some, None, subst, rules, append_assoc, append-nil, length-drop, All}
 use Rattle.std.specs.List.{slice_split, onto_first, position_or_len}
 use Rattle.std.proofs.lemmas.List.Elements.{All-append, All-nil}
 use Rattle.std.proofs.lemmas.List.Splits.{slice_split_first, slice_split_none}
@@ -115,6 +115,27 @@ whole_lines-none bytes none = ap less_last (cut-none bytes none)
 
 pub last_part-none : (bytes : List ℕ) → IsFirstByte (is_byte 10) bytes None → last_part bytes ≡ bytes
 last_part-none bytes none = ap last_of (cut-none bytes none)
+
+last_of-onto : (x n : ℕ) (parts : List (List ℕ)) (p : List ℕ) (ps : List (List ℕ)) → parts ≡ p ∷ ps → length (last_of parts) ≤ n → length (last_of (onto_first x parts)) ≤ n + 1
+last_of-onto x n [] p ps e h = cc
+last_of-onto x n (l ∷ []) p ps e h = omega (arith, h)
+last_of-onto x n (l ∷ m ∷ more) p ps e h = omega (arith, h)
+
+-- what stands behind the last newline is no longer than all
+pub last_part-le : (bytes : List ℕ) → length (last_part bytes) ≤ length bytes
+last_part-le [] = omega arith
+last_part-le (x ∷ bytes) =
+    let s = some_part bytes in
+    let rest = last_part-le bytes in
+    elim (x == 10) as (λ v. length (last_of (cond v ([] ∷ cut bytes) (onto_first x (cut bytes)))) ≤ length (x ∷ bytes)) [
+      | true ↦ subst (λ l. length l ≤ length (x ∷ bytes)) (sym (last_of-behind [] (cut bytes) s.0 s.1 s.2)) (omega (arith, rest))
+      | false ↦ omega (arith, last_of-onto x (length bytes) (cut bytes) s.0 s.1 s.2 rest)
+    ]
+
+-- and shorter, where there is a newline
+pub last_part-less : (bytes : List ℕ) (n : ℕ) → IsFirstByte (is_byte 10) bytes (Some n) → length (last_part bytes) < length bytes
+last_part-less bytes n first =
+    omega (arith, ap length (last_part-first bytes n first), last_part-le (drop (n + 1) bytes), length-drop (n + 1) bytes, first.0.high)
 
 -- ---- parts without a newline
 

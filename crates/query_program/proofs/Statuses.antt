@@ -6,7 +6,7 @@ use Rattle.std.specs.Io.KnownBytes.{Appends, IsAtEnd}
 use Rattle.outside.specs.Bytes.{AppendsPrefix}
 use Rattle.query_session.specs.State.{State}
 use Rattle.query_program.specs.Answers.{answers_from}
-use Rattle.query_program.specs.Ends.{Ends, EndsWith, AnsweredWhole, EndsByLine, EndsByInput, EndsAnswered}
+use Rattle.query_program.specs.Ends.{Ends, EndsWith, AnsweredWhole, AnsweredPart, TookFew, EndsByLine, EndsByInput, EndsAnswered}
 use Rattle.query_program.specs.Limits.{IsShort, seen, HasLongLine, HasTooManyBytes, IsWithin}
 use Rattle.query_program.specs.Lines.{lines}
 use Rattle.query_program.specs.Statuses.{IsStatus, IsUnhindered, status_of_end}
@@ -94,6 +94,22 @@ module _ (state : State) (first_left left first_written written : Option (List �
   answered_read (Err OutOfMemory) h e = cc
   answered_read (Err LineTooLong) h e = cc
   answered_read (Err InputTooLong) h e = cc
+
+  pub few : (r : Result (Unit {0}) Stop) → IfSome first_left (Ends state left first_written written r) → IfSome first_left (λ input. TookFew input left)
+  few r = if_some _ _ first_left (λ input ends. ends.few)
+
+  pub answered_part : (r : Result (Unit {0}) Stop) → IfSome first_left (Ends state left first_written written r) → (status_of_end r ≡ 4) ⊎ (status_of_end r ≡ 5)
+      → IfSome first_left (λ input. AnsweredPart state input left first_written written)
+  answered_part (Ok x) h (inl e) = cc
+  answered_part (Ok x) h (inr e) = cc
+  answered_part (Err ReadFault) h (inl e) = cc
+  answered_part (Err ReadFault) h (inr e) = cc
+  answered_part (Err WriteFault) h e = if_some _ _ first_left (λ input ends. ends.how) h
+  answered_part (Err OutOfMemory) h e = if_some _ _ first_left (λ input ends. ends.how) h
+  answered_part (Err LineTooLong) h (inl e) = cc
+  answered_part (Err LineTooLong) h (inr e) = cc
+  answered_part (Err InputTooLong) h (inl e) = cc
+  answered_part (Err InputTooLong) h (inr e) = cc
 
   pub answered_before : (r : Result (Unit {0}) Stop) → IfSome first_left (Ends state left first_written written r) → status_of_end r ≡ 6
       → IfSome first_left (λ input. EndsByLine state input first_written written)

@@ -11,11 +11,12 @@
 //! | `replies.rt` | the reply to one line, and to all whole lines in the buffer |
 //! | `line_buffer.rt` | the buffer of reads |
 //! | `output.rt` | writing gathered replies |
-//! | `stop.rt`, `limits.rt` | why a run ends early, and the limits |
+//! | `stop.rt`, `limits.rt`, `laws.rt` | why a run ends early, the limits, and their numbers |
 //!
 //! Meaning: `specs/Lines.antt`, `specs/Answers.antt`, `specs/Limits.antt`. Start at `top.rt`.
 #![tactic(auto)]
 
+pub mod laws;
 mod limits;
 mod line_buffer;
 mod output;

@@ -1,7 +1,8 @@
-ghost use Rattle.std.specs.Prelude.{◌≡◌, ℕ, ◌+◌, ◌-◌, ◌<◌, ◌≤◌, ◌++◌, [], min, length, take, drop, IfOk, OnOk, OnErr, IsErrOf};
+ghost use Rattle.std.specs.Prelude.{◌≡◌, ℕ, ◌+◌, ◌-◌, ◌<◌, ◌≤◌, ◌++◌, [], true, false, None, min, length, take, drop, IfOk, OnOk, OnErr, IsErrOf};
 ghost use Rattle.std.specs.Io.KnownBytes.{Consumes, IsAtEnd, Keeps};
 ghost use Rattle.memchr.specs.Find.{IsFirstByte, is_byte};
 ghost use Rattle.outside.specs.Causes.{Rose};
+ghost use Rattle.query_program.specs.Lines.{last_part};
 ghost use Rattle.query_program.specs.Reads.{Filled, IsReadStop, IsReadStopOf};
 
 use crate::limits::{FIRST_ROOM, LINE_LIMIT};
@@ -70,6 +71,18 @@ impl LineBuffer {
                 None
             }
         }
+    }
+
+    /// Whether a line is too long, whatever comes: the bytes fill the buffer, and none is a newline.
+    ///
+    /// Time linear in the bytes that came since the last search.
+    pub(crate) fn is_full_of_one_line(&mut self) -> bool
+        requires room { length self.old.bytes ≤ LINE_LIMIT + 1 }
+        ensures long { result ≡ true → (LINE_LIMIT < length self.old.bytes) × IsFirstByte (is_byte 10) self.old.bytes None }
+        ensures short { result ≡ false → length (last_part self.old.bytes) ≤ LINE_LIMIT }
+        ensures same { self.new ≡ self.old }
+    {
+        self.len() > LINE_LIMIT && self.first_line().is_none()
     }
 
     /// The first `count` bytes that are not answered yet.

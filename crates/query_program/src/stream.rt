@@ -44,10 +44,10 @@ pub(crate) fn answer_stream<'h, R: Threads + Sync, S: Source, K: Sink, G: Gate>(
             return answer_last(rt, alloc, gate, session, &buffer, &mut gathered, sink);
         }
         total += count;
-        answer_lines(rt, alloc, gate, session, &mut buffer, &mut gathered, sink)?;
-        if buffer.len() > LINE_LIMIT {
+        if buffer.is_full_of_one_line() {
             return Err(Stop::LineTooLong);
         }
+        answer_lines(rt, alloc, gate, session, &mut buffer, &mut gathered, sink)?;
     }
     match read_one(source)? {
         None => answer_last(rt, alloc, gate, session, &buffer, &mut gathered, sink),

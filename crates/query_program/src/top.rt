@@ -3,7 +3,7 @@ ghost use Rattle.std.specs.Io.KnownBytes.{Appends, IsAtEnd};
 ghost use Rattle.outside.specs.Bytes.{AppendsPrefix};
 ghost use Rattle.outside.specs.Causes.{Rose};
 ghost use Rattle.query_program.specs.Answers.{answers, empty};
-ghost use Rattle.query_program.specs.Ends.{Ends, AnsweredWhole, EndsByLine, EndsByInput};
+ghost use Rattle.query_program.specs.Ends.{Ends, AnsweredWhole, AnsweredPart, EndsByLine, EndsByInput, TookFew};
 ghost use Rattle.query_program.specs.Limits.{HasLongLine, HasTooManyBytes, IsWithin};
 ghost use Rattle.query_program.specs.Statuses.{IsStatus, IsUnhindered, status_of_end};
 
@@ -32,12 +32,13 @@ pub struct Ended {
 /// | 0 | the source was read to its end | all replies |
 /// | 2 | exactly where there are words | nothing; nothing was read |
 /// | 3 | only where the source's count of faults rose | the replies to the whole lines read |
-/// | 4 | only where the sink's count of faults rose | a first part of the replies |
-/// | 5 | memory was wanting | a first part of the replies |
+/// | 4 | only where the sink's count of faults rose | a first part of the replies to what was read |
+/// | 5 | memory was wanting | a first part of the replies to what was read |
 /// | 6 | exactly where a line passes 4,194,304 bytes without its newline | the replies to the lines before it |
 /// | 7 | exactly where more than 67,108,864 bytes come | the replies to the lines whose newline is among the first so many |
 ///
-/// The run ends at the first of these that it meets, and on one byte at 6 before 7. What is said of 3 and above of the bytes holds
+/// The run ends at the first of these that it meets, and on one byte at 6 before 7: at 3, 4 and 5 what was read keeps both
+/// limits, and no run reads more than one byte past the limit of the input. What is said of 3 and above of the bytes holds
 /// where source and sink tell theirs. Time linear in the input and the replies; memory for the texts, one line and one reply.
 pub fn run<R: Threads + Sync, S: Source, K: Sink, G: Gate>(
     rt: &R,
@@ -68,8 +69,12 @@ pub fn run<R: Threads + Sync, S: Source, K: Sink, G: Gate>(
     ensures begun { IfSome (S.left source.old) (λ input. AppendsPrefix (K.written sink.old) (K.written sink.new) (answers input)) }
     ensures answered { result.status ≡ 0 → IfSome (S.left source.old) (λ input. IsAtEnd (S.left source.new) × Appends (K.written sink.old) (K.written sink.new) (answers input)) }
     ensures answered_read { result.status ≡ 3 → IfSome (S.left source.old) (λ input. AnsweredWhole empty input (S.left source.new) (K.written sink.old) (K.written sink.new)) }
+    ensures answered_part { (result.status ≡ 4) ⊎ (result.status ≡ 5) → IfSome (S.left source.old) (λ input. AnsweredPart empty input (S.left source.new) (K.written sink.old) (K.written sink.new)) }
     ensures answered_before { result.status ≡ 6 → IfSome (S.left source.old) (λ input. EndsByLine empty input (K.written sink.old) (K.written sink.new)) }
     ensures answered_within { result.status ≡ 7 → IfSome (S.left source.old) (λ input. EndsByInput empty input (K.written sink.old) (K.written sink.new)) }
+
+    // However it ended.
+    ensures few { IfSome (S.left source.old) (λ input. TookFew input (S.left source.new)) }
 {
     if words.len() != 0 {
         return Ended { status: 2 };

@@ -5,14 +5,14 @@ use Rattle.std.proofs.Common.{append-nil}
 use Rattle.std.specs.Prelude.{IsErrAnd}
 use Rattle.std.proofs.lemmas.List.{nil_from_length}
 use Rattle.query_program.specs.Answers.{answers_from}
-use Rattle.query_program.specs.Lines.{less_empty_end}
+use Rattle.query_program.specs.Lines.{less_empty_end, whole_lines}
 use Rattle.query_program.specs.Ends.{Ends, Probed, limit_stop}
 use Rattle.query_program.specs.Reads.{Filled, IsReadStopOf, IsReadStop}
 use Rattle.query_program.specs.Writes.{IsWriteStopOf, IsWriteStop, Answered}
 use Rattle.query_program.specs.declared.stop.Stop.{Stop}
 use Rattle.query_program.specs.declared.stop.Stop.TheVariants.{ReadFault}
 use Rattle.query_program.specs.declared.limits.TheConstants.{LINE_LIMIT, INPUT_LIMIT}
-use Rattle.query_program.proofs.Progress.{Progress, progress-on, ends-read, ends-write, ends-last, ends-line, ends-limit, last-end, LastEnd}
+use Rattle.query_program.proofs.Progress.{Progress, progress-on, ends-read, ends-write, ends-last, ends-line, ends-limit, answered-none, last-end, LastEnd}
 use Rattle.query_program.proofs.stream.answer_stream.Goals as goal
 
 -- a read that gave nothing took nothing
@@ -31,7 +31,7 @@ returns-in_err-count-clause-ends g c =
     let stop = c.in_err-count.field-0.0 in
     subst (λ r. IfSome (g.S.Source.left c.args.source.now) (Ends c.args.session.now.state (g.S.Source.left c.fill.new.source) (g.K.Sink.written c.args.sink.now) (g.K.Sink.written c.reads.sink) r))
     (sym (error-of c.from_residual-in_err-count.result stop c.from_residual-in_err-count.ensures.1))
-    (ends-read _ _ _ _ _ _ _ _ c.reads.invariant.progress (g.S.Source.left c.fill.new.source) stop c.in_err-count.ensures.kept.1 c.in_err-count.ensures.stops)
+    (ends-read _ _ _ _ _ _ _ _ c.reads.invariant.progress (g.S.Source.left c.fill.new.source) stop c.in_err-count.ensures.kept.1 c.in_err-count.ensures.stops c.reads.invariant.within c.reads.invariant.fits)
 
 pub returns-then-count-eq0-clause-ends : goal.returns-then-count-eq0-clause-ends
 returns-then-count-eq0-clause-ends g c =
@@ -47,23 +47,31 @@ returns-in_err-answer_lines-clause-ends g c =
     subst (λ r. IfSome (g.S.Source.left c.args.source.now) (Ends c.args.session.now.state (g.S.Source.left c.fill.new.source) (g.K.Sink.written c.args.sink.now) (g.K.Sink.written c.answer_lines.new.sink) r))
     (sym (error-of c.from_residual-in_err-answer_lines.result stop c.from_residual-in_err-answer_lines.ensures.1))
     (ends-write _ _ _ _ _ _ _ _ c.reads.invariant.progress (g.S.Source.left c.fill.new.source) (g.K.Sink.written c.answer_lines.new.sink) c.fill.new.self.bytes _ _ stop
-    c.in_ok-count.ensures.filled c.in_err-answer_lines.ensures.begun c.in_err-answer_lines.ensures.stops)
+    c.in_ok-count.ensures.filled
+    (subst (λ xs. AppendsPrefix (g.K.Sink.written c.reads.sink) (g.K.Sink.written c.answer_lines.new.sink) (answers_from c.reads.session.state (whole_lines xs)))
+    (ap (λ b. b.bytes) c.is_full_of_one_line.ensures.same) c.in_err-answer_lines.ensures.begun)
+    c.in_err-answer_lines.ensures.stops
+    (omega (arith, c.reads.invariant.within, c.in_ok-count.ensures.filled.most_)) c.in_ok-count.ensures.bound (c.is_full_of_one_line.ensures.short (search rules)))
 
-pub returns-then-len-gt-LINE_LIMIT-clause-ends : goal.returns-then-len-gt-LINE_LIMIT-clause-ends
-returns-then-len-gt-LINE_LIMIT-clause-ends g c =
+pub returns-then-is_full_of_one_line-clause-ends : goal.returns-then-is_full_of_one_line-clause-ends
+returns-then-is_full_of_one_line-clause-ends g c =
     let i = c.reads.invariant in
-    let p = progress-on _ _ _ _ _ _ _ _ i.progress c.answer_lines.new.session.state (g.S.Source.left c.fill.new.source) (g.K.Sink.written c.answer_lines.new.sink) c.fill.new.self.bytes c.answer_lines.new.buffer.bytes _ _
-    c.in_ok-count.ensures.filled c.in_ok-count.ensures.bound c.in_ok-answer_lines.ensures.answered in
-    ends-line _ _ _ _ _ _ _ _ p (search rules) (search rules)
+    let long = c.is_full_of_one_line.ensures.long (search rules) in
+    let p = progress-on _ _ _ _ _ _ _ _ i.progress c.reads.session.state (g.S.Source.left c.fill.new.source) (g.K.Sink.written c.reads.sink) c.fill.new.self.bytes c.fill.new.self.bytes _ _
+    c.in_ok-count.ensures.filled c.in_ok-count.ensures.bound (answered-none c.reads.session.state c.fill.new.self.bytes (g.K.Sink.written c.reads.sink) long.1) in
+    ends-line _ _ _ _ _ _ _ _ p (search rules) long.0
 
 pub reads-preserved : goal.reads-preserved
 reads-preserved g c =
     let i = c.reads.invariant in
+    let same = ap (λ b. b.bytes) c.is_full_of_one_line.ensures.same in
+    let answered = subst (λ xs. Answered c.reads.session.state c.answer_lines.new.session.state xs c.answer_lines.new.buffer.bytes (g.K.Sink.written c.reads.sink) (g.K.Sink.written c.answer_lines.new.sink))
+    same c.in_ok-answer_lines.ensures.answered in
     record {
       progress = progress-on _ _ _ _ _ _ _ _ i.progress c.answer_lines.new.session.state (g.S.Source.left c.fill.new.source) (g.K.Sink.written c.answer_lines.new.sink) c.fill.new.self.bytes c.answer_lines.new.buffer.bytes _ _
-          c.in_ok-count.ensures.filled c.in_ok-count.ensures.bound c.in_ok-answer_lines.ensures.answered;
+          c.in_ok-count.ensures.filled c.in_ok-count.ensures.bound answered;
       within = search rules;
-      fits = search rules;
+      fits = omega (arith, ap length answered.rest, c.is_full_of_one_line.ensures.short (search rules));
       empty = search rules;
       whole = search rules;
       source_later = search rules;
@@ -75,7 +83,7 @@ returns-in_err-read_one-clause-ends g c =
     let stop = c.in_err-read_one.field-0.0 in
     subst (λ r. IfSome (g.S.Source.left c.args.source.now) (Ends c.args.session.now.state (g.S.Source.left c.read_one.new.source) (g.K.Sink.written c.args.sink.now) (g.K.Sink.written c.reads.sink) r))
     (sym (error-of c.from_residual-in_err-read_one.result stop c.from_residual-in_err-read_one.ensures.1))
-    (ends-read _ _ _ _ _ _ _ _ c.reads.invariant.progress (g.S.Source.left c.read_one.new.source) stop c.in_err-read_one.ensures.kept c.in_err-read_one.ensures.stops)
+    (ends-read _ _ _ _ _ _ _ _ c.reads.invariant.progress (g.S.Source.left c.read_one.new.source) stop c.in_err-read_one.ensures.kept c.in_err-read_one.ensures.stops c.reads.invariant.within c.reads.invariant.fits)
 
 pub returns-in-None-clause-ends : goal.returns-in-None-clause-ends
 returns-in-None-clause-ends g c =
