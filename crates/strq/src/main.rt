@@ -1,5 +1,10 @@
 //! The program: its words, standard input and output, and a status with a line that says why.
+//!
+//! Meaning: `specs/Messages.antt`, and of the run itself `query_program`.
 #![tactic(auto)]
+
+ghost use Rattle.std.specs.Prelude.{◌≡◌};
+ghost use Rattle.strq.specs.Messages.{message};
 
 use outside::{IoSink, IoSource, OpenGate};
 use query_program::run;
@@ -32,15 +37,18 @@ fn read_words(rt: &HostRuntime) -> Words {
     Words::Read(list)
 }
 
-/// What is said of a status, 2 to 7.
-fn told(status: u8) -> &'static str {
+/// What is said of a status, 2 to 7; of another nothing.
+fn told(status: u8) -> &'static str
+    ensures { result.now ≡ message status }
+{
     match status {
         2 => "strq: usage: strq [--workers N] [--make NUMBER --lines N]",
         3 => "strq: read fault",
         4 => "strq: write fault",
         5 => "strq: out of memory",
         6 => "strq: line too long",
-        _ => "strq: input too long",
+        7 => "strq: input too long",
+        _ => "",
     }
 }
 
