@@ -10,3 +10,4 @@ pub mod Decoding
 pub mod Indices
 mod RoundingExamples
 pub mod Replacing
+pub mod Listed

@@ -6,3 +6,4 @@ pub mod Views
 pub mod Rounding
 pub mod Crumbs
 pub mod Editing
+pub mod Texts

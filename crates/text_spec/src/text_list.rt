@@ -1,4 +1,5 @@
 ghost use Rattle.std.specs.Prelude.{◌≡◌, ◌<◌, [], ◌∷◌, ◌++◌, length, OnOk, OnErr, Some, slice_get};
+ghost use Rattle.text_spec.specs.Texts.{AreTexts};
 
 use crate::out_of_memory::OutOfMemory;
 use std::alloc::Global;
@@ -39,9 +40,10 @@ impl TextList {
         Ok(())
     }
 
-    /// The number of texts.
+    /// The number of texts. Each of them is the UTF-8 of a text.
     pub fn len(&self) -> usize
-        ensures { result ≡ length self.now }
+        ensures length { result ≡ length self.now }
+        ensures texts { AreTexts self.now }
     {
         self.texts.len()
     }
