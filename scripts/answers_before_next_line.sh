@@ -2,7 +2,7 @@
 # Sends one line down a pipe, waits for its reply, and only then sends the next: no reply waits for more input.
 set -euo pipefail
 top=$(cd "$(dirname "$0")/.." && pwd)
-"$top/scripts/strq" </dev/null
+built=$("$top/scripts/program")
 
 exchange() {
   local line=$1 want=$2 got
@@ -18,7 +18,7 @@ exchange() {
   echo "$line -> $got"
 }
 
-coproc strq { "$top/crates/strq/out/strq"; }
+coproc strq { "$built"; }
 program=$strq_PID
 exchange '{"load":"a","text":"abc"}' '{"scalars":3,"utf16":3,"utf8":3}'
 exchange '{"load":' '{"error":"syntax"}'

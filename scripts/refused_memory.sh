@@ -3,7 +3,7 @@
 # with status 0 and all of them. Needs cc. The allocator is wrapped by a small library that is made on the way.
 set -euo pipefail
 top=$(cd "$(dirname "$0")/.." && pwd)
-"$top/scripts/strq" </dev/null
+program=$("$top/scripts/program")
 work=$(mktemp -d)
 trap 'rm -rf "$work"' EXIT
 
@@ -32,13 +32,13 @@ cat >"$work/input" <<'LINES'
 {"drop":"a"}
 [
 LINES
-"$top/crates/strq/out/strq" <"$work/input" >"$work/want"
+"$program" <"$work/input" >"$work/want"
 
 call=0
 while true; do
   call=$((call + 1))
   status=0
-  LD_PRELOAD="$work/refuse.so" REFUSED_CALL=$call "$top/crates/strq/out/strq" <"$work/input" >"$work/got" 2>"$work/err" || status=$?
+  LD_PRELOAD="$work/refuse.so" REFUSED_CALL=$call "$program" <"$work/input" >"$work/got" 2>"$work/err" || status=$?
   [ "$status" = 99 ] && break
   if [ "$status" = 5 ]; then
     cmp -s -n "$(stat -c %s "$work/got")" "$work/got" "$work/want" && continue
