@@ -91,15 +91,15 @@ are_built_ops (o ∷ ops) = is_built_op o && are_built_ops ops
 abbrev pub is_built_content : Content → Bool
 is_built_content (content.Text text) = true
 is_built_content (content.Units units) = true
-is_built_content (content.Raw bytes) = false
+is_built_content (content.Raw bytes) = true
 is_built_content (content.Literal number) = false
 
 -- which commands are built
 abbrev pub is_built : Command → Bool
 is_built (command.Load name what) = is_built_content what
-is_built (command.Copy to source) = false
-is_built (command.Drop name) = false
-is_built (command.Compare a b) = false
+is_built (command.Copy to source) = true
+is_built (command.Drop name) = true
+is_built (command.Compare a b) = true
 is_built (command.On name ops) = are_built_ops ops
 is_built (command.Batch jobs) = false
 

@@ -31,11 +31,9 @@ pub fn is_built(command: &Command) -> bool
     ensures { result ≡ is_built command.now }
 {
     match command {
-        Command::Load { what, .. } => matches!(what, Content::Text(_) | Content::Units(_)),
+        Command::Load { what, .. } => !matches!(what, Content::Literal(_)),
         Command::On { ops, .. } => are_built_ops(ops.as_slice()),
-        Command::Copy { .. }
-        | Command::Drop { .. }
-        | Command::Compare { .. }
-        | Command::Batch { .. } => false,
+        Command::Copy { .. } | Command::Drop { .. } | Command::Compare { .. } => true,
+        Command::Batch { .. } => false,
     }
 }

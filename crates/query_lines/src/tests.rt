@@ -42,38 +42,42 @@ fn push_ops(out: &mut String, ops: &[Op]) -> Result<(), AllocError> {
     Ok(())
 }
 
-fn push_units(out: &mut String, units: &[u16]) -> Result<(), AllocError> {
-    write!(out, " units")?;
-    for unit in units {
-        write!(out, " {unit}")?;
+fn push_content(out: &mut String, what: &Content) -> Result<(), AllocError> {
+    match what {
+        Content::Text(text) => push_bytes(out, text),
+        Content::Units(units) => write!(out, " units {:?}", units.as_slice()),
+        Content::Raw(bytes) => write!(out, " bytes {:?}", bytes.as_slice()),
+        Content::Literal(number) => write!(out, " literal {number}"),
     }
-    Ok(())
 }
 
 fn push_command(out: &mut String, command: &Command) -> Result<(), AllocError> {
     match command {
-        Command::Load {
-            name,
-            what: Content::Text(text),
-        } => {
+        Command::Load { name, what } => {
             write!(out, "load")?;
             push_bytes(out, name)?;
-            push_bytes(out, text)
+            push_content(out, what)
         }
-        Command::Load {
-            name,
-            what: Content::Units(units),
-        } => {
-            write!(out, "load")?;
-            push_bytes(out, name)?;
-            push_units(out, units.as_slice())
+        Command::Copy { to, source } => {
+            write!(out, "copy")?;
+            push_bytes(out, to)?;
+            push_bytes(out, source)
+        }
+        Command::Drop { name } => {
+            write!(out, "drop")?;
+            push_bytes(out, name)
+        }
+        Command::Compare { a, b } => {
+            write!(out, "compare")?;
+            push_bytes(out, a)?;
+            push_bytes(out, b)
         }
         Command::On { name, ops } => {
             write!(out, "on")?;
             push_bytes(out, name)?;
             push_ops(out, ops.as_slice())
         }
-        _ => write!(out, "(a command that isn't built)"),
+        Command::Batch { .. } => write!(out, "(a command that isn't built)"),
     }
 }
 
@@ -146,16 +150,17 @@ fn lines_are_read_by_the_rows_of_the_table(rt: HostRuntime) -> Result<(), Fail> 
             r#"{"on":"a","do":[{"at":18446744073709551615}]}"#,
             "on a at 18446744073709551615",
         ),
-        (r#"{"load":"a","bytes":[]}"#, "not built"),
-        (r#"{"load":"a","bytes":[0,255]}"#, "not built"),
+        (r#"{"load":"a","bytes":[]}"#, "load a bytes []"),
+        (r#"{"load":"a","bytes":[0,255]}"#, "load a bytes [0, 255]"),
         (
             r#"{"load":"a","units":[0,55296,65535]}"#,
-            "load a units 0 55296 65535",
+            "load a units [0, 55296, 65535]",
         ),
         (r#"{"load":"a","literal":9}"#, "not built"),
-        (r#"{"copy":"a","from":"b"}"#, "not built"),
-        (r#"{"drop":"a"}"#, "not built"),
-        (r#"{"compare":["a","b"]}"#, "not built"),
+        (r#"{"copy":"a","from":"b"}"#, "copy a b"),
+        (r#"{"from":"a","copy":"b"}"#, "copy b a"),
+        (r#"{"drop":"a"}"#, "drop a"),
+        (r#"{"compare":["a","b"]}"#, "compare a b"),
         (r#"{"batch":[]}"#, "not built"),
         (
             r#"{"batch":[{"on":"a","do":[{"at":1}],"keep":"b"},{"on":"a","do":[]}]}"#,
@@ -308,10 +313,10 @@ fn names_batches_and_depth_have_limits(rt: HostRuntime) -> Result<(), Fail> {
     let job = r#"{"on":"a","do":[]}"#;
     let later = r#",{"on":"a","do":[]}"#;
     for (front, piece, count, back, want) in [
-        (r#"{"drop":""#, "n", 64, r#""}"#, "not built"),
-        (r#"{"drop":""#, "n", 65, r#""}"#, "syntax"),
-        (r#"{"drop":""#, "é", 32, r#""}"#, "not built"),
-        (r#"{"drop":"n"#, "é", 32, r#""}"#, "syntax"),
+        (r#"{"literal":1,"load":""#, "n", 64, r#""}"#, "not built"),
+        (r#"{"literal":1,"load":""#, "n", 65, r#""}"#, "syntax"),
+        (r#"{"literal":1,"load":""#, "é", 32, r#""}"#, "not built"),
+        (r#"{"literal":1,"load":"n"#, "é", 32, r#""}"#, "syntax"),
         ("", "[", 200, "", "syntax"),
         (r#"{"text":"x","load":"#, "[", 100, "", "syntax"),
         ("", r#"[{"on":"#, 200, "", "syntax"),

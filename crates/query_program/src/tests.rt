@@ -61,7 +61,7 @@ const SYNTAX: &[u8] = b"{\"error\":\"syntax\"}\n";
 
 #[test]
 fn lines_are_answered_however_they_are_cut(rt: HostRuntime) -> Result<(), OutOfMemory> {
-    let rows: [(&str, &str); 9] = [
+    let rows: [(&str, &str); 12] = [
         ("", ""),
         (
             "{\"load\":\"a\",\"text\":\"\"}\n",
@@ -82,12 +82,24 @@ fn lines_are_answered_however_they_are_cut(rt: HostRuntime) -> Result<(), OutOfM
         ("{\"load\":", "{\"error\":\"syntax\"}\n"),
         ("\n", "{\"error\":\"syntax\"}\n"),
         (
-            "\n\n{\"drop\":\"a\"}",
+            "\n\n{\"batch\":[]}",
             "{\"error\":\"syntax\"}\n{\"error\":\"syntax\"}\n{\"error\":\"not built\"}\n",
         ),
         (
             "{\"text\":\"é\",\"load\":\"b\"}\r\n\n",
             "{\"scalars\":1,\"utf16\":1,\"utf8\":2}\n{\"error\":\"syntax\"}\n",
+        ),
+        (
+            "{\"load\":\"p\",\"text\":\"e\\u0301\"}\n{\"load\":\"q\",\"text\":\"é\"}\n{\"load\":\"r\",\"text\":\"f\"}\n{\"compare\":[\"p\",\"q\"]}\n{\"compare\":[\"p\",\"r\"]}\n{\"compare\":[\"r\",\"r\"]}\n",
+            "{\"scalars\":2,\"utf16\":2,\"utf8\":3}\n{\"scalars\":1,\"utf16\":1,\"utf8\":2}\n{\"scalars\":1,\"utf16\":1,\"utf8\":1}\n{\"order\":\"equal\"}\n{\"order\":\"greater\"}\n{\"order\":\"equal\"}\n",
+        ),
+        (
+            "{\"load\":\"b\",\"bytes\":[195,40]}\n{\"on\":\"b\",\"do\":[]}\n",
+            "{\"error\":\"not utf-8\",\"valid\":0}\n{\"error\":\"no name\",\"name\":\"b\"}\n",
+        ),
+        (
+            "{\"load\":\"a\",\"text\":\"abc\"}\n{\"copy\":\"c\",\"from\":\"a\"}\n{\"drop\":\"c\"}\n{\"drop\":\"c\"}\n",
+            "{\"scalars\":3,\"utf16\":3,\"utf8\":3}\n{\"ok\":\"copy\"}\n{\"ok\":\"drop\"}\n{\"error\":\"no name\",\"name\":\"c\"}\n",
         ),
     ];
     for (input, want) in rows {
@@ -122,8 +134,7 @@ fn words_are_refused_before_anything_is_read(rt: HostRuntime) -> Result<(), OutO
 #[test]
 fn a_failing_call_leaves_the_replies_before_it(rt: HostRuntime) -> Result<(), OutOfMemory> {
     // Each line has 23 bytes and a newline, each reply 33 bytes and a newline.
-    let input =
-        b"{\"load\":\"a\",\"text\":\"x\"}\n{\"load\":\"b\",\"text\":\"y\"}\n{\"drop\":\"a\"}";
+    let input = b"{\"load\":\"a\",\"text\":\"x\"}\n{\"load\":\"b\",\"text\":\"y\"}\n{\"batch\":[]}";
     let replies =
         b"{\"scalars\":1,\"utf16\":1,\"utf8\":1}\n{\"scalars\":1,\"utf16\":1,\"utf8\":1}\n{\"error\":\"not built\"}\n";
     let reply_length = 33;

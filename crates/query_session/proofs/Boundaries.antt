@@ -1,5 +1,5 @@
 -- Boundaries of a text in its storage, and the places that offsets are rounded down to.
-use Rattle.std.proofs.Common.{◌≡◌, true, false, refl, sym, ap, ◌∙◌, subst, ℕ, zero, suc, ◌+◌, ◌-◌, ◌^◌, ◌<◌, ◌≤◌, ⊎_elim, List, length, get_or, arith}
+use Rattle.std.proofs.Common.{◌≡◌, true, false, refl, sym, ap, ◌∙◌, ℕ, ◌+◌, ◌-◌, ◌^◌, ◌<◌, ◌≤◌, ⊎_elim, List, length, get_or, arith}
 use Rattle.std.proofs.lemmas.Bool.{cases_lt}
 use Rattle.std.proofs.lemmas.List.{take_all}
 use Rattle.text_spec.specs.declared.encoding.Encoding.{Encoding}
@@ -15,7 +15,6 @@ use Rattle.text_spec.proofs.Lengths.{start-utf16}
 use Rattle.text_spec.proofs.Walk.{start-zero, start-suc, start-le, start-mono, down-next, down-start, down-end}
 use Rattle.text_spec.proofs.Widths.{width_some, width_most}
 use Rattle.index_words.specs.Fields.{position_of, transcoded_of}
-use Rattle.rounding.specs.Resolving.{index_at}
 use Rattle.unit_views.specs.declared.view.View.TheVariants.{Units}
 use Rattle.unit_views.specs.Elements.{same_encoding, element_count, element_index, element_place}
 use Rattle.unit_views.specs.Spots.{Walked}

@@ -1,3 +1,6 @@
+pub mod States
 pub mod Held
 pub mod Boundaries
 pub mod Parts
+pub mod Loads
+pub mod Copies

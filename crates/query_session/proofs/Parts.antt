@@ -4,18 +4,17 @@ use Rattle.std.proofs.lemmas.Bool.{cond-true, cond-false, lt-ltb, le-ltb}
 use Rattle.std.proofs.lemmas.List.{take_all}
 use Rattle.std.specs.List.{slice_get}
 use Rattle.text_spec.specs.declared.encoding.Encoding.{Encoding}
-use Rattle.text_spec.specs.declared.encoding.Encoding.TheVariants.{Utf8, Utf16}
+use Rattle.text_spec.specs.declared.encoding.Encoding.TheVariants.{Utf16}
 use Rattle.text_spec.specs.Offsets.{start, down}
 use Rattle.text_spec.specs.Text.{utf8, utf16}
 use Rattle.text_spec.specs.Views.{width_in, part}
 use Rattle.text_spec.proofs.Downward.{down-length}
 use Rattle.text_spec.proofs.Lengths.{start-utf8, start-utf16}
-use Rattle.text_spec.proofs.Walk.{start-zero}
 use Rattle.query_lines.specs.declared.reply.OpReply.TheVariants as answer
 use Rattle.str_value.specs.Meaning.{Meaning, storage_of, text_between}
 use Rattle.query_session.specs.declared.place.Boundary.{Boundary}
 use Rattle.query_session.specs.Boundaries.{IsBoundary}
-use Rattle.query_session.specs.Answers.{units, floor, view_of, place_of, place_reply, out_of_bounds, text_reply, slice_reply}
+use Rattle.query_session.specs.Answers.{units, floor, view_of, place_reply, out_of_bounds, text_reply, slice_reply}
 use Rattle.query_session.proofs.Boundaries.{number-there}
 
 -- the answer that a boundary gives to a place

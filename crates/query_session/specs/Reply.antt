@@ -1,6 +1,9 @@
 -- What a command is answered, and what the names stand for afterwards.
-use Rattle.std.specs.Prelude.{ℕ, List, length, chars, if◌then◌else◌, Option, Some, None}
+use Rattle.std.specs.Prelude.{◌≡◌, ℕ, List, length, chars, if◌then◌else◌, Option, Some, None}
+use Rattle.std.specs.Str.{is_utf8}
+use Rattle.std.specs.Str.Lossy.{utf8_valid_len}
 use Rattle.text_spec.specs.Text.{utf8, utf16, repair}
+use Rattle.canon_order.specs.Equivalence.{order_of}
 use Rattle.query_lines.specs.declared.command.Command.{Command}
 use Rattle.query_lines.specs.declared.command.Command.TheVariants as command
 use Rattle.query_lines.specs.declared.command.Content.TheVariants as content
@@ -10,7 +13,7 @@ use Rattle.query_lines.specs.declared.reply.Refusal.TheVariants as refusal
 use Rattle.query_lines.specs.declared.reply.Reply.{Reply}
 use Rattle.query_lines.specs.declared.reply.Reply.TheVariants as reply
 use Rattle.query_lines.specs.Commands.{is_built}
-use Rattle.query_session.specs.State.{State, text_of, has_room, store}
+use Rattle.query_session.specs.State.{State, text_of, is_in_use, has_room, store, forget}
 use Rattle.query_session.specs.Answers.{op_replies}
 
 abbrev pub not_built : Reply
@@ -23,6 +26,26 @@ counts_of text = reply.Counts (length text) (length (utf16 text)) (length (utf8 
 -- a text is stored under the name, unless it would be one name too many
 abbrev pub load_reply : State → List ℕ → List ℕ → Reply × State
 load_reply state name text = if has_room state name then (counts_of text, store state name text) else (reply.Refused refusal.TooManyNames, state)
+
+-- the same for the text that bytes are the UTF-8 of. Elsewhere it is told how many of them, from the start, are that of a text.
+abbrev pub load_bytes_reply : State → List ℕ → List ℕ → Reply × State
+load_bytes_reply state name bytes =
+    if is_utf8 bytes then load_reply state name (chars bytes) else (reply.Refused (refusal.NotUtf8 (utf8_valid_len bytes)), state)
+
+-- the text of the source, where it is in use, is stored under the other name, unless that would be one name too many
+abbrev pub copy_reply : State → List ℕ → List ℕ → Option (List ℕ) → Reply × State
+copy_reply state to source None = (reply.Refused (refusal.NoName source), state)
+copy_reply state to source (Some text) = if has_room state to then (reply.Copied, store state to text) else (reply.Refused refusal.TooManyNames, state)
+
+-- the name isn't in use any more
+abbrev pub drop_reply : State → List ℕ → Reply × State
+drop_reply state name = if is_in_use state name then (reply.Dropped, forget state name) else (reply.Refused (refusal.NoName name), state)
+
+-- how the texts of two names compare, by canonical equivalence. The first of the names that isn't in use is told.
+abbrev pub compare_reply : List ℕ → List ℕ → Option (List ℕ) → Option (List ℕ) → Reply
+compare_reply a b None right = reply.Refused (refusal.NoName a)
+compare_reply a b (Some left) None = reply.Refused (refusal.NoName b)
+compare_reply a b (Some left) (Some right) = reply.Order (order_of left right)
 
 abbrev pub results_or_not_built : Option (List OpReply) → Reply
 results_or_not_built None = not_built
@@ -37,9 +60,19 @@ on_reply name ops (Some text) = results_or_not_built (op_replies text 0 ops)
 abbrev pub built_reply : State → Command → Reply × State
 built_reply state (command.Load name (content.Text bytes)) = load_reply state name (chars bytes)
 built_reply state (command.Load name (content.Units units)) = load_reply state name (repair units)
+built_reply state (command.Load name (content.Raw bytes)) = load_bytes_reply state name bytes
+built_reply state (command.Copy to source) = copy_reply state to source (text_of state source)
+built_reply state (command.Drop name) = drop_reply state name
+built_reply state (command.Compare a b) = (compare_reply a b (text_of state a) (text_of state b), state)
 built_reply state (command.On name ops) = (on_reply name ops (text_of state name), state)
 built_reply state _ = (not_built, state)
 
 -- the reply to any command, and the new state
 abbrev pub reply_to : State → Command → Reply × State
 reply_to state c = if is_built c then built_reply state c else (not_built, state)
+
+-- a command that takes no memory: a drop, and a copy of a name onto itself
+abbrev pub IsFree : Command → Type 0
+IsFree (command.Drop name) = Unit {0}
+IsFree (command.Copy to source) = to ≡ source
+IsFree _ = ⊥

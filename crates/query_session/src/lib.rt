@@ -7,6 +7,7 @@
 #![tactic(auto)]
 
 mod answers;
+mod named;
 mod names;
 mod place;
 mod session;
@@ -14,5 +15,6 @@ mod session;
 mod tests;
 #[cfg(test)]
 mod view_tests;
+mod words;
 
 pub use session::Session;

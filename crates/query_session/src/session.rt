@@ -1,23 +1,23 @@
 //! The session and its calls.
-ghost use Rattle.std.specs.Prelude.{◌≡◌, ◌<◌, ◌≤◌, true, false, is_err, length, chars, string_bytes, IfOk, IsTrue, OnOk, OnErr, IsUtf8};
+ghost use Rattle.std.specs.Prelude.{◌≡◌, ◌<◌, ◌≤◌, true, false, is_err, length, chars, string_bytes, IfOk, IsTrue, OnOk, OnErr, IsOk};
 ghost use Rattle.std.specs.FinMap as finite;
 ghost use Rattle.text_spec.specs.Text.{utf8, repair};
 ghost use Rattle.query_lines.specs.WellFormed.{IsWellFormed, IsWellFormedContent, IsName, IsShortText, text_limit};
 ghost use Rattle.query_lines.specs.Replies.{IsShown};
-ghost use Rattle.query_session.specs.Reply.{reply_to, load_reply, counts_of};
+ghost use Rattle.query_session.specs.Reply.{IsFree, reply_to, load_reply, load_bytes_reply, counts_of};
 ghost use Rattle.query_session.specs.State as state;
 
+use crate::named::{compare, copy, drop_name};
 use crate::names::Names;
+use crate::words::{has_room, no_name, not_built, string_of};
 use outside::Gate;
 use query_lines::{Bytes, Command, Content, Ops, Refusal, Reply, Units, are_built_ops};
+use simdutf8::compat::from_utf8;
 use std::alloc::Global;
 use std::marker::Model;
 use std::thread::Threads;
 use str_value::{MakeError, Pass, Str};
 use text_spec::OutOfMemory;
-
-/// How many names may be in use.
-const MAX_NAMES: usize = 256;
 
 /// Names and their texts.
 #[derive(Drop)]
@@ -60,7 +60,8 @@ impl<'h> Session<'h> {
 
     /// The reply to a command, and the state after it.
     ///
-    /// No earlier step may have answered `OutOfMemory`. Where this one does, each name has the text that it had before.
+    /// No earlier step may have answered `OutOfMemory`. Where this one does, each name has the text that it had before. A drop and a
+    /// copy of a name onto itself take no memory.
     pub fn step<R: Threads + Sync, G: Gate>(
         &mut self,
         alloc: Global,
@@ -72,6 +73,7 @@ impl<'h> Session<'h> {
         requires whole { self.old.failed ≡ false }
         ensures reply { IfOk result (λ r. (r, self.new.state) ≡ reply_to self.old.state command) }
         ensures shown { IfOk result IsShown }
+        ensures free { IsFree command → IsOk result }
         ensures kept { OnErr result (self.new.state ≡ self.old.state) }
         ensures failed { self.new.failed ≡ is_err result }
         ensures workers { self.new.workers ≡ self.old.workers }
@@ -117,6 +119,7 @@ fn reply<'h>(
 ) -> Result<Reply, OutOfMemory>
     requires { IsWellFormed command }
     ensures reply { IfOk result (λ r. (r, names.new) ≡ reply_to names.old command) }
+    ensures free { IsFree command → IsOk result }
     ensures shown { IfOk result IsShown }
     ensures kept { OnErr result (names.new ≡ names.old) }
     ensures pass { pass.new ≡ pass.old }
@@ -124,17 +127,11 @@ fn reply<'h>(
     match command {
         Command::Load { name, what } => load_content(pass, names, alloc, name, what),
         Command::On { name, ops } => on(names, alloc, name, ops),
-        Command::Copy { .. } => Ok(not_built()),
-        Command::Drop { .. } => Ok(not_built()),
-        Command::Compare { .. } => Ok(not_built()),
+        Command::Copy { to, source } => copy(pass, names, alloc, to, source),
+        Command::Drop { name } => Ok(drop_name(pass, names, name)),
+        Command::Compare { a, b } => compare(pass, names, alloc, a, b),
         Command::Batch { .. } => Ok(not_built()),
     }
-}
-
-fn not_built() -> Reply
-    ensures { result ≡ Reply.Refused Refusal.NotBuilt }
-{
-    Reply::Refused(Refusal::NotBuilt)
 }
 
 fn load_content<'h>(
@@ -154,7 +151,7 @@ fn load_content<'h>(
     match what {
         Content::Text(text) => load(pass, names, alloc, name, text),
         Content::Units(units) => load_units(pass, names, alloc, name, units),
-        Content::Raw(_) => Ok(not_built()),
+        Content::Raw(bytes) => load_bytes(pass, names, alloc, name, bytes),
         Content::Literal(_) => Ok(not_built()),
     }
 }
@@ -205,11 +202,27 @@ fn load_units<'h>(
     store(pass, names, name, value)
 }
 
-// Whether a text may be stored under the name.
-fn has_room(names: &Names, name: &str) -> bool
-    ensures { result ≡ state.has_room names.now name.now }
+// The same for bytes that may not be UTF-8.
+fn load_bytes<'h>(
+    pass: &mut Pass<'h>,
+    names: &mut Names<'h>,
+    alloc: Global,
+    name: Bytes,
+    bytes: Bytes,
+) -> Result<Reply, OutOfMemory>
+    requires name { IsName name }
+    requires bytes { length bytes ≤ text_limit }
+    ensures reply { IfOk result (λ r. (r, names.new) ≡ load_bytes_reply names.old name bytes) }
+    ensures shown { IfOk result IsShown }
+    ensures kept { OnErr result (names.new ≡ names.old) }
+    ensures pass { pass.new ≡ pass.old }
 {
-    names.get(name).is_some() || names.count() < MAX_NAMES
+    if let Err(fault) = from_utf8(bytes.as_slice()) {
+        return Ok(Reply::Refused(Refusal::NotUtf8 {
+            valid: fault.valid_up_to() as u64,
+        }));
+    }
+    load(pass, names, alloc, name, bytes)
 }
 
 // Stores a value under a name for which there is room.
@@ -252,13 +265,6 @@ fn on(names: &mut Names, alloc: Global, name: Bytes, ops: Ops) -> Result<Reply, 
     }
 }
 
-fn no_name(name: String) -> Reply
-    ensures reply { result ≡ Reply.Refused (Refusal.NoName (string_bytes name)) }
-    ensures shown { IsShown result }
-{
-    Reply::Refused(Refusal::NoName(Bytes::new(name.into_bytes())))
-}
-
 // The value of a text within its limit, in UTF-8.
 fn make<'h>(pass: &mut Pass<'h>, alloc: Global, text: &[u8]) -> Result<Str<'h>, OutOfMemory>
     requires { IsShortText text.now }
@@ -284,16 +290,5 @@ fn make_units<'h>(pass: &mut Pass<'h>, alloc: Global, units: &[u16]) -> Result<S
         Err(MakeError::OutOfMemory) => Err(OutOfMemory),
         Err(MakeError::NotUtf8 { .. }) => unreachable!(),
         Err(MakeError::TooLong { .. }) => unreachable!(),
-    }
-}
-
-// A name as a text. No memory.
-fn string_of(name: Bytes) -> String
-    requires { IsUtf8 name }
-    ensures { string_bytes result ≡ name }
-{
-    match String::from_utf8(name.into_vec()) {
-        Ok(text) => text,
-        Err(_) => unreachable!(),
     }
 }

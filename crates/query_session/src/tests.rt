@@ -158,6 +158,100 @@ fn texts_of_units_get_the_replies_worked_out_by_hand(rt: HostRuntime) -> Result<
 }
 
 #[test]
+fn names_are_copied_dropped_and_compared(rt: HostRuntime) -> Result<(), OutOfMemory> {
+    let rows = [
+        (
+            r#"{"load":"a","text":"abcdefghijklmnopqrst"}"#,
+            r#"{"scalars":20,"utf16":20,"utf8":20}"#,
+        ),
+        (r#"{"copy":"c","from":"a"}"#, r#"{"ok":"copy"}"#),
+        (
+            r#"{"on":"c","do":[{"text":true}]}"#,
+            r#"{"results":[{"text":"abcdefghijklmnopqrst"}]}"#,
+        ),
+        (r#"{"drop":"c"}"#, r#"{"ok":"drop"}"#),
+        (r#"{"drop":"c"}"#, r#"{"error":"no name","name":"c"}"#),
+        (r#"{"on":"c","do":[]}"#, r#"{"error":"no name","name":"c"}"#),
+        (
+            r#"{"copy":"a","from":"zz"}"#,
+            r#"{"error":"no name","name":"zz"}"#,
+        ),
+        (
+            r#"{"copy":"zz","from":"zz"}"#,
+            r#"{"error":"no name","name":"zz"}"#,
+        ),
+        (r#"{"copy":"a","from":"a"}"#, r#"{"ok":"copy"}"#),
+        (
+            r#"{"load":"b","bytes":[195,40]}"#,
+            r#"{"error":"not utf-8","valid":0}"#,
+        ),
+        (r#"{"on":"b","do":[]}"#, r#"{"error":"no name","name":"b"}"#),
+        (
+            r#"{"load":"b","bytes":[97,195,169]}"#,
+            r#"{"scalars":2,"utf16":2,"utf8":3}"#,
+        ),
+        (
+            r#"{"load":"b","bytes":[97,237,160,128]}"#,
+            r#"{"error":"not utf-8","valid":1}"#,
+        ),
+        (
+            r#"{"on":"b","do":[{"text":true}]}"#,
+            r#"{"results":[{"text":"aé"}]}"#,
+        ),
+        // A name in use gets the other text, and the source keeps its own.
+        (r#"{"copy":"b","from":"a"}"#, r#"{"ok":"copy"}"#),
+        (
+            r#"{"load":"a","bytes":[]}"#,
+            r#"{"scalars":0,"utf16":0,"utf8":0}"#,
+        ),
+        (
+            r#"{"on":"b","do":[{"text":true}]}"#,
+            r#"{"results":[{"text":"abcdefghijklmnopqrst"}]}"#,
+        ),
+        (
+            r#"{"load":"p","text":"e\u0301"}"#,
+            r#"{"scalars":2,"utf16":2,"utf8":3}"#,
+        ),
+        (
+            r#"{"load":"q","units":[233]}"#,
+            r#"{"scalars":1,"utf16":1,"utf8":2}"#,
+        ),
+        (
+            r#"{"load":"r","text":"f"}"#,
+            r#"{"scalars":1,"utf16":1,"utf8":1}"#,
+        ),
+        (r#"{"compare":["p","q"]}"#, r#"{"order":"equal"}"#),
+        (r#"{"compare":["p","r"]}"#, r#"{"order":"greater"}"#),
+        (r#"{"compare":["r","p"]}"#, r#"{"order":"less"}"#),
+        (r#"{"compare":["r","b"]}"#, r#"{"order":"greater"}"#),
+        (r#"{"compare":["r","r"]}"#, r#"{"order":"equal"}"#),
+        (
+            r#"{"compare":["zz","yy"]}"#,
+            r#"{"error":"no name","name":"zz"}"#,
+        ),
+        (
+            r#"{"compare":["p","yy"]}"#,
+            r#"{"error":"no name","name":"yy"}"#,
+        ),
+        (
+            r#"{"on":"p","do":[{"count":"scalars"}]}"#,
+            r#"{"results":[{"count":2}]}"#,
+        ),
+        (
+            r#"{"on":"q","do":[{"text":true}]}"#,
+            r#"{"results":[{"text":"é"}]}"#,
+        ),
+    ];
+    let mut session = Session::new(rt.alloc(), Pass::none(), 1)?;
+    for (line, wanted) in rows {
+        let reply = answer(&rt, rt.alloc(), &mut session, line.as_bytes())?;
+        assert_eq!(rt; reply.as_slice(), wanted.as_bytes(), "{line}");
+    }
+    let _pass = session.end();
+    Ok(())
+}
+
+#[test]
 fn no_more_than_256_names_are_in_use(rt: HostRuntime) -> Result<(), OutOfMemory> {
     let mut session = Session::new(rt.alloc(), Pass::none(), 8)?;
     for number in 0..256_u32 {
@@ -186,6 +280,31 @@ fn no_more_than_256_names_are_in_use(rt: HostRuntime) -> Result<(), OutOfMemory>
         (
             r#"{"on":"n8","do":[{"text":true}]}"#,
             r#"{"results":[{"text":"x"}]}"#,
+        ),
+        // The first refusal that stands is told.
+        (
+            r#"{"load":"m","bytes":[255]}"#,
+            r#"{"error":"not utf-8","valid":0}"#,
+        ),
+        (
+            r#"{"load":"m","bytes":[120]}"#,
+            r#"{"error":"too many names"}"#,
+        ),
+        (
+            r#"{"copy":"m","from":"zz"}"#,
+            r#"{"error":"no name","name":"zz"}"#,
+        ),
+        (
+            r#"{"copy":"m","from":"n7"}"#,
+            r#"{"error":"too many names"}"#,
+        ),
+        (r#"{"copy":"n8","from":"n7"}"#, r#"{"ok":"copy"}"#),
+        (r#"{"copy":"n9","from":"n9"}"#, r#"{"ok":"copy"}"#),
+        (r#"{"drop":"n9"}"#, r#"{"ok":"drop"}"#),
+        (r#"{"copy":"m","from":"n8"}"#, r#"{"ok":"copy"}"#),
+        (
+            r#"{"on":"m","do":[{"text":true}]}"#,
+            r#"{"results":[{"text":"yz"}]}"#,
         ),
     ];
     for (line, wanted) in rows {

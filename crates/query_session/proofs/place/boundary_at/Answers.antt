@@ -3,7 +3,6 @@ use Rattle.text_spec.specs.Offsets.{start, down}
 use Rattle.text_spec.specs.Views.{width_in}
 use Rattle.text_spec.proofs.Downward.{down-length}
 use Rattle.str_value.specs.Meaning.{Meaning, storage_of}
-use Rattle.query_session.specs.Answers.{floor}
 use Rattle.query_session.specs.Boundaries.{IsBoundary}
 use Rattle.query_session.proofs.Boundaries.{number-there, boundary-there, inside-there}
 use Rattle.query_session.proofs.place.boundary_at.Goals as goal

@@ -1,4 +1,4 @@
-use Rattle.std.proofs.Common.{◌≡◌, sym, ap, ◌∙◌}
+use Rattle.std.proofs.Common.{sym, ap, ◌∙◌}
 use Rattle.str_value.specs.Meaning.{Meaning, storage_of}
 use Rattle.query_session.proofs.Boundaries.{boundary-in-utf8, boundary-in-utf16}
 use Rattle.query_session.proofs.place.boundary_of.Goals as goal

@@ -1,7 +1,6 @@
 use Rattle.std.proofs.Common.{◌∙◌, ◌≤◌, subst}
-use Rattle.index_words.specs.Fields.{position_of, transcoded_of}
 use Rattle.str_value.specs.Meaning.{storage_of}
-use Rattle.query_session.proofs.Boundaries.{Found, found-at, units-count}
+use Rattle.query_session.proofs.Boundaries.{found-at, units-count}
 use Rattle.query_session.proofs.place.found.Goals as goal
 
 pub rounded-requires : goal.rounded-requires

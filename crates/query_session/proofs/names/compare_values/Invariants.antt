@@ -1,0 +1,4 @@
+use Rattle.query_session.proofs.names.compare_values.Given as goal
+
+abbrev pub ghosts-compare_counted : goal.ghosts-compare_counted
+ghosts-compare_counted a = record { name = a.blank.name; parts = a.blank.parts }

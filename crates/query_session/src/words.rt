@@ -1,0 +1,41 @@
+//! What the commands share: a name as a text, whether there is room for it, and what a name that isn't in use is answered.
+ghost use Rattle.std.specs.Prelude.{◌≡◌, string_bytes, IsUtf8};
+ghost use Rattle.query_lines.specs.Replies.{IsShown};
+ghost use Rattle.query_session.specs.State as state;
+
+use crate::names::Names;
+use query_lines::{Bytes, Refusal, Reply};
+
+/// How many names may be in use.
+const MAX_NAMES: usize = 256;
+
+pub(crate) fn not_built() -> Reply
+    ensures { result ≡ Reply.Refused Refusal.NotBuilt }
+{
+    Reply::Refused(Refusal::NotBuilt)
+}
+
+pub(crate) fn no_name(name: String) -> Reply
+    ensures reply { result ≡ Reply.Refused (Refusal.NoName (string_bytes name)) }
+    ensures shown { IsShown result }
+{
+    Reply::Refused(Refusal::NoName(Bytes::new(name.into_bytes())))
+}
+
+// Whether a text may be stored under the name.
+pub(crate) fn has_room(names: &Names, name: &str) -> bool
+    ensures { result ≡ state.has_room names.now name.now }
+{
+    names.get(name).is_some() || names.count() < MAX_NAMES
+}
+
+// A name as a text. No memory.
+pub(crate) fn string_of(name: Bytes) -> String
+    requires { IsUtf8 name }
+    ensures { string_bytes result ≡ name }
+{
+    match String::from_utf8(name.into_vec()) {
+        Ok(text) => text,
+        Err(_) => unreachable!(),
+    }
+}
