@@ -1,8 +1,11 @@
+-- what callers read
 pub mod Answers
 pub mod Ends
 pub mod Limits
 pub mod Lines
-pub mod Reads
 pub mod Statuses
+
+-- what this crate's proof needs
+pub mod Reads
 pub mod Stops
 pub mod Writes
