@@ -1,6 +1,6 @@
-ghost use Rattle.std.specs.Prelude.{List, ℕ, ◌≡◌, ◌+◌, ◌^◌, ◌<◌, length, set, OnOk};
+ghost use Rattle.std.specs.Prelude.{ℕ, ◌≡◌, ◌+◌, ◌^◌, ◌<◌, length, set, OnOk};
 ghost use Rattle.slot_model.specs.History.{at, count_of, held, detached, cleared, installed, next, Applies};
-ghost use Rattle.slot_model.specs.Checking.{heap_in, slot_in};
+ghost use Rattle.slot_model.specs.Checking.{heap_in};
 
 use crate::attach::Attach;
 use crate::event::Event;

@@ -1,4 +1,4 @@
-ghost use Rattle.std.specs.Prelude.{List, ℕ, ◌≡◌, ◌↔◌, ◌<◌, ◌≤◌, length, IsTrue, ◌==◌};
+ghost use Rattle.std.specs.Prelude.{◌≡◌, ◌↔◌, ◌<◌, ◌≤◌, length, IsTrue, ◌==◌};
 ghost use Rattle.slot_model.specs.History.{at, idle, count_of, words_of, side_in, MayDetach, Applies};
 ghost use Rattle.slot_model.specs.Checking.{heap_in};
 

@@ -1,4 +1,4 @@
-ghost use Rattle.std.specs.Prelude.{List, ℕ, ◌≡◌, ◌↔◌, ◌+◌, ◌^◌, ◌<◌, ◌≤◌, length, IsTrue, OnOk};
+ghost use Rattle.std.specs.Prelude.{◌≡◌, ◌↔◌, ◌+◌, ◌^◌, ◌<◌, ◌≤◌, length, IsTrue, OnOk};
 ghost use Rattle.slot_model.specs.History.{idle, count_of, words_of, side_in, closing_in, retained, released, written, sided, detached};
 ghost use Rattle.slot_model.specs.Checking.{slot_in};
 

@@ -3,11 +3,11 @@ use Rattle.std.proofs.Common.{◌≡◌, ℕ, ◌≤◌, inl, inr, List, [], Som
 use Rattle.atomic_table.specs.Table.{Splits, Joins}
 use Rattle.atomic_table.proofs.Lists.{set_else}
 use Rattle.slot_model.specs.declared.layout.Layout.{Layout}
-use Rattle.slot_table.specs.declared.view.View.{View}
+use Rattle.slot_table.specs.declared.view.SeatView.{SeatView}
 use Rattle.slot_table.specs.declared.view.Role.TheVariants.{Draft, Reference}
 use Rattle.slot_table.specs.Holdings.{Holds}
-use Rattle.slot_table.specs.Steps.{spent, longer}
-use Rattle.slot_table.specs.ReferenceSteps.{armed, unarmed, change}
+use Rattle.slot_table.specs.Views.{spent, longer}
+use Rattle.slot_table.specs.SideSteps.{armed, unarmed, change}
 use Rattle.slot_table.proofs.Kept.{weigh_none}
 use Rattle.slot_table.proofs.Fronts.{longer_prefix, longer_whole, both_prefix}
 use Rattle.slot_table.proofs.Cutting.{cut, merge}
@@ -16,11 +16,11 @@ use Rattle.slot_table.proofs.Sharing.{times_frees}
 use Rattle.slot_table.proofs.Below.{below-both}
 
 module _ (fits : List ℕ → List ℕ → Type 0) (k : Layout) (ls : List (List ℕ)) where
-  module _ (u u' : View) (d : ℕ) where
-    abbrev v : View
+  module _ (u u' : SeatView) (d : ℕ) where
+    abbrev v : SeatView
     v = record u { role = Reference; draft = None; weight = 1; credits = 1 }
 
-    abbrev w : View
+    abbrev w : SeatView
     w = record u' { role = Draft; draft = Some d; credits = 1; free = [] }
 
     arms_core : (id other : ℕ) → Joins (Holds fits k ls) id v other w (armed v w) spent
@@ -47,8 +47,8 @@ module _ (fits : List ℕ → List ℕ → Type 0) (k : Layout) (ls : List (List
         }
         record { front_is = (r.all, refl); told_is = ([], refl); places_below = λ n past. omega arith; literals_are = tt; draft_is = tt; role_is = (record { light = refl; shared = refl; not_bare = refl; no_side = refl }, refl, refl, refl, refl) }
 
-  module _ (u : View) where
-    abbrev b : View
+  module _ (u : SeatView) where
+    abbrev b : SeatView
     b = record u { role = Reference; weight = 1 }
 
     changes_core : (id : ℕ) → 2 ≤ u.credits → Splits (Holds fits k ls) id b (unarmed b) (change b)
@@ -71,10 +71,10 @@ module _ (fits : List ℕ → List ℕ → Type 0) (k : Layout) (ls : List (List
         }
         record { front_is = seat.front_is; told_is = (u.front, refl); places_below = λ n past. omega arith; literals_are = seat.literals_are; draft_is = tt; role_is = (known.layout_is, record { light = refl; shared = refl; not_bare = refl; no_side = refl }, omega arith, refl) }
 
-pub arms_allowed : (fits : List ℕ → List ℕ → Type 0) (k : Layout) (ls : List (List ℕ)) (id other d : ℕ) (v w : View) → v.role ≡ Reference → v.draft ≡ None → v.weight ≡ 1 → v.credits ≡ 1 → w.role ≡ Draft → w.draft ≡ Some d → w.credits ≡ 1 → w.free ≡ []
+pub arms_allowed : (fits : List ℕ → List ℕ → Type 0) (k : Layout) (ls : List (List ℕ)) (id other d : ℕ) (v w : SeatView) → v.role ≡ Reference → v.draft ≡ None → v.weight ≡ 1 → v.credits ≡ 1 → w.role ≡ Draft → w.draft ≡ Some d → w.credits ≡ 1 → w.free ≡ []
     → Joins (Holds fits k ls) id v other w (armed v w) spent
-arms_allowed fits k ls id other d v w role no_draft light paid role' draft' paid' no_slots = subst (λ (z : View × View). Joins (Holds fits k ls) id z.0 other z.1 (armed z.0 z.1) spent)
+arms_allowed fits k ls id other d v w role no_draft light paid role' draft' paid' no_slots = subst (λ (z : SeatView × SeatView). Joins (Holds fits k ls) id z.0 other z.1 (armed z.0 z.1) spent)
     (λ t. (record v { role = sym role t; draft = sym no_draft t; weight = sym light t; credits = sym paid t }, record w { role = sym role' t; draft = sym draft' t; credits = sym paid' t; free = sym no_slots t })) (arms_core fits k ls v w d id other)
 
-pub changes_allowed : (fits : List ℕ → List ℕ → Type 0) (k : Layout) (ls : List (List ℕ)) (id : ℕ) (v : View) → v.role ≡ Reference → v.weight ≡ 1 → 2 ≤ v.credits → Splits (Holds fits k ls) id v (unarmed v) (change v)
-changes_allowed fits k ls id v role light rich = subst (λ (z : View). Splits (Holds fits k ls) id z (unarmed z) (change z)) (λ t. record v { role = sym role t; weight = sym light t }) (changes_core fits k ls v id rich)
+pub changes_allowed : (fits : List ℕ → List ℕ → Type 0) (k : Layout) (ls : List (List ℕ)) (id : ℕ) (v : SeatView) → v.role ≡ Reference → v.weight ≡ 1 → 2 ≤ v.credits → Splits (Holds fits k ls) id v (unarmed v) (change v)
+changes_allowed fits k ls id v role light rich = subst (λ (z : SeatView). Splits (Holds fits k ls) id z (unarmed z) (change z)) (λ t. record v { role = sym role t; weight = sym light t }) (changes_core fits k ls v id rich)

@@ -3,8 +3,7 @@ use Rattle.std.proofs.Common.{◌≡◌, ℕ, ◌+◌, ◌<◌, ◌≤◌, cond,
 use Rattle.std.proofs.lemmas.Bool.Decides.{nat_tests}
 use mathlib.Core.List.{IsPrefix}
 use Rattle.slot_model.specs.declared.event.Event.{Event}
-use Rattle.slot_table.specs.Seats.{one, AllOnce}
-use Rattle.slot_table.specs.Holdings.{Below}
+use Rattle.slot_table.specs.Numbers.{one, AllOnce, Below}
 use Rattle.slot_table.proofs.Sums.{times_append}
 
 pub below-one : (l n : ℕ) → l < n → one n l ≡ 0

@@ -1,8 +1,8 @@
 -- A list in which each number below n stands at most once, and no other, has at most n members.
 use Rattle.std.proofs.Common.{◌≡◌, ℕ, zero, suc, ◌+◌, ◌<◌, ◌≤◌, List, [], ◌∷◌, ◌++◌, length, ltb, cond, refl, ap, arith}
 use Rattle.std.proofs.lemmas.Bool.Decides.{nat_tests}
-use Rattle.slot_table.specs.Seats.{total, times, one, Once}
-use Rattle.slot_table.specs.Steps.{last_of, but_last}
+use Rattle.slot_table.specs.Numbers.{total, times, one, Once}
+use Rattle.slot_table.specs.PassSteps.{last_of, but_last}
 use Rattle.slot_table.proofs.Kept.{one-same}
 
 abbrev pub below : ℕ → List ℕ → ℕ

@@ -10,19 +10,22 @@ use Rattle.atomic_table.specs.Table.{State, step, keeps, Allows, opening}
 use Rattle.slot_model.specs.declared.event.Event.{Event}
 use Rattle.slot_model.specs.declared.layout.Layout.{Layout}
 use Rattle.slot_model.specs.History.{Slot, Heap, idle, held, closing, side_of, at, count_of, side_in, idle_in, closing_in, heap_after, Legal}
-use Rattle.slot_table.specs.declared.view.View.{View}
+use Rattle.slot_table.specs.declared.view.SeatView.{SeatView}
 use Rattle.slot_table.specs.declared.view.Role.{Role}
 use Rattle.slot_table.specs.declared.view.Role.TheVariants.{Share, Draft, Reference, Closing, Literal, Spent}
-use Rattle.slot_table.specs.Addresses.{size_of, LayoutOk}
-use Rattle.slot_table.specs.Seats.{total, one, times, in_option, weight_on, closing_on, free_on, place_on, credits_in, closes, AllOnce, down_from}
+use Rattle.slot_table.specs.Addresses.{table_size, zeros}
+use Rattle.slot_table.specs.Opening.{LayoutOk}
+use Rattle.slot_table.specs.Numbers.{total, one, times, AllOnce, down_from}
+use Rattle.slot_table.specs.Seats.{in_option, weight_on, closing_on, free_on, place_on, credits_in, closes}
 use Rattle.slot_table.specs.Holdings.{IsActive, Alive, SlotOk, SeatOk, RoleOk, Holds}
-use Rattle.slot_table.specs.Steps.{first_view, Sat, IsAll, Concludes}
+use Rattle.slot_table.specs.PassSteps.{first_view, IsAll, Concludes}
+use Rattle.slot_table.specs.Views.{Sat}
 use Rattle.slot_table.proofs.Sums.{total_two, total_only}
 use Rattle.slot_table.proofs.Kept.{weigh_none}
 use Rattle.slot_table.proofs.Looking.{unmoved}
 use Rattle.slot_model.proofs.Runs.{length-heap_after}
 use Rattle.slot_model.proofs.Sides.{paired_after}
-use Rattle.slot_table.specs.Literals.{rows_of, zeros}
+use Rattle.literal_rows.specs.Rows.{rows_of}
 use Rattle.slot_table.proofs.Rows.{within}
 
 get_or-zeros : (n j : ℕ) → get_or (zeros n) j 0 ≡ 0
@@ -51,21 +54,21 @@ get_or-behind (x ∷ xs) ys j zero e = absurd (omega arith)
 get_or-behind (x ∷ xs) ys j (suc m) e = get_or-behind xs ys j m (omega arith)
 
 module _ (fits : List ℕ → List ℕ → Type 0) (k : Layout) (ls : List (List ℕ)) where
-  begins_with : (words : List ℕ) → words ≡ zeros (size_of k) ++ rows_of ls → 1 ≤ k.credits → Holds fits k ls (opening words [] (first_view k ls))
+  begins_with : (words : List ℕ) → words ≡ zeros (table_size k) ++ rows_of ls → 1 ≤ k.credits → Holds fits k ls (opening words [] (first_view k ls))
   begins_with words laid some_credit =
-      let len : length (zeros (size_of k)) ≡ size_of k = length-replicate (size_of k) 0 in
-      let zero_at : (j : ℕ) → j < size_of k → get_or words j 0 ≡ 0 = λ j below. ap (λ l. get_or l j 0) laid ∙ (get_or-front (zeros (size_of k)) (rows_of ls) j (omega (arith, len, below)) ∙ get_or-zeros (size_of k) j) in
+      let len : length (zeros (table_size k)) ≡ table_size k = length-replicate (table_size k) 0 in
+      let zero_at : (j : ℕ) → j < table_size k → get_or words j 0 ≡ 0 = λ j below. ap (λ l. get_or l j 0) laid ∙ (get_or-front (zeros (table_size k)) (rows_of ls) j (omega (arith, len, below)) ∙ get_or-zeros (table_size k) j) in
       let none_on : (x : ℕ) → one x 0 * 0 ≡ 0 = λ x. weigh_none x 0 0 refl in
       let h = replicate k.slots idle in record {
         all = [];
         legal = tt;
-        wide = ap length laid ∙ (length-append (zeros (size_of k)) (rows_of ls) ∙ ap (λ (m : ℕ). m + length (rows_of ls)) len);
+        wide = ap length laid ∙ (length-append (zeros (table_size k)) (rows_of ls) ∙ ap (λ (m : ℕ). m + length (rows_of ls)) len);
         zero_is = zero_at 0 (omega arith);
-        rows = λ j below. ap (λ l. get_or l (size_of k + j) 0) laid ∙ get_or-behind (zeros (size_of k)) (rows_of ls) j (size_of k + j) (omega (arith, len));
+        rows = λ j below. ap (λ l. get_or l (table_size k + j) 0) laid ∙ get_or-behind (zeros (table_size k)) (rows_of ls) j (table_size k + j) (omega (arith, len));
         owner = (0, first_view k ls, refl, tt, refl);
         slots = λ x below. subst (SlotOk k words (first_view k ls ∷ []) x) (sym (at-idle k.slots x)) record {
           count = zero_at _ (within (k.capacity_words + 2) k.slots x 1 below (omega arith));
-          crumb = zero_at _ (within (k.capacity_words + 2) k.slots x 2 below (omega arith));
+          side_shown = zero_at _ (within (k.capacity_words + 2) k.slots x 2 below (omega arith));
           content = λ i b. absurd (omega arith);
           room = omega arith;
           alive = tt;
@@ -79,7 +82,7 @@ module _ (fits : List ℕ → List ℕ → Type 0) (k : Layout) (ls : List (List
         seats = seat;
       }
     where
-      seat : (j : ℕ) (v : View) → get_elem? (first_view k ls ∷ []) j ≡ some v → SeatOk k ls words [] v
+      seat : (j : ℕ) (v : SeatView) → get_elem? (first_view k ls ∷ []) j ≡ some v → SeatOk k ls words [] v
       seat zero v e = subst (SeatOk k ls words []) (some-injective (first_view k ls) v e) record {
         front_is = ([], refl);
         told_is = ([], refl);
@@ -90,11 +93,11 @@ module _ (fits : List ℕ → List ℕ → Type 0) (k : Layout) (ls : List (List
       }
       seat (suc j) v e = absurd (some-ne-none v (sym e))
 
-  pub begins : (words : List ℕ) → words ≡ zeros (size_of k) ++ rows_of ls → LayoutOk k → Holds fits k ls (opening words [] (first_view k ls))
+  pub begins : (words : List ℕ) → words ≡ zeros (table_size k) ++ rows_of ls → LayoutOk k → Holds fits k ls (opening words [] (first_view k ls))
   begins words laid ok = begins_with words laid ok.credits_least
 
   -- a view with no credit holds nothing
-  record Empty (u : View) (ρ : Role) : Type 0 where
+  record Empty (u : SeatView) (ρ : Role) : Type 0 where
     light : u.weight ≡ 0
     still : closes ρ ≡ 0
     no_draft : u.draft ≡ None
@@ -102,7 +105,7 @@ module _ (fits : List ℕ → List ℕ → Type 0) (k : Layout) (ls : List (List
     no_places : u.places ≡ []
     asleep : IsActive ρ → ⊥
 
-  empty : (h : Heap) (u : View) (ρ : Role) → RoleOk k h u ρ → u.credits ≡ 0 → Empty u ρ
+  empty : (h : Heap) (u : SeatView) (ρ : Role) → RoleOk k h u ρ → u.credits ≡ 0 → Empty u ρ
   empty h u Share ok none_left = absurd (let c = ok.2 in omega arith)
   empty h u Draft ok none_left = absurd (let c = ok.2 in omega arith)
   empty h u Reference ok none_left = absurd (let c = ok.pays in let w = ok.weighs.0 in omega arith)
@@ -130,17 +133,17 @@ module _ (fits : List ℕ → List ℕ → Type 0) (k : Layout) (ls : List (List
   out_of_heap (c ∷ h) zero past = absurd (omega arith)
   out_of_heap (c ∷ h) (suc y) past = out_of_heap h y (omega arith)
 
-  module _ (s : State ℕ View) (r : Holds fits k ls s) (id : ℕ) (v : View) (at_id : get_elem? s.views id ≡ some v) (role : v.role ≡ Share) (every : v.credits ≡ k.credits) where
+  module _ (s : State ℕ SeatView) (r : Holds fits k ls s) (id : ℕ) (v : SeatView) (at_id : get_elem? s.views id ≡ some v) (role : v.role ≡ Share) (every : v.credits ≡ k.credits) where
     abbrev mine : RoleOk k (heap_after k r.all) v Share
     mine = subst (RoleOk k (heap_after k r.all) v) role (r.seats id v at_id).role_is
 
-    other : (j : ℕ) (u : View) → j ≢ id → get_elem? s.views j ≡ some u → Empty u u.role
+    other : (j : ℕ) (u : SeatView) → j ≢ id → get_elem? s.views j ≡ some u → Empty u u.role
     other j u ne at_j = let two = total_two credits_in s.views id j v u (λ e. ne (sym e)) at_id at_j in let all_are = r.credits in
         empty (heap_after k r.all) u u.role (r.seats j u at_j).role_is (omega (arith, two, all_are, every))
 
     knows_all : v.front ≡ r.all
     knows_all = dite (ℕ_discrete r.owner.0 id)
-        (λ (same : r.owner.0 ≡ id). let e : r.owner.1 ≡ v = some-injective r.owner.1 v (sym r.owner.2 ∙ (ap (get_elem? s.views) same ∙ at_id)) in ap (λ (y : View). y.front) (sym e) ∙ r.owner.4)
+        (λ (same : r.owner.0 ≡ id). let e : r.owner.1 ≡ v = some-injective r.owner.1 v (sym r.owner.2 ∙ (ap (get_elem? s.views) same ∙ at_id)) in ap (λ (y : SeatView). y.front) (sym e) ∙ r.owner.4)
         (λ (ne : ¬ (r.owner.0 ≡ id)). absurd ((other r.owner.0 r.owner.1 ne r.owner.2).asleep r.owner.3))
 
     no_weight : (x : ℕ) → total (weight_on x) s.views ≡ 0

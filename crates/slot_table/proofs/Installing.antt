@@ -11,19 +11,20 @@ use Rattle.slot_model.specs.declared.layout.Layout.{Layout}
 use Rattle.slot_model.specs.History.{Slot, Heap, idle, held, closing, side_of, at, sided, count_of, words_of, side_in, idle_in, closing_in, heap_after, Paired, Applies}
 use Rattle.slot_model.proofs.Runs.{length-heap_after, heap_after-snoc, at-set, at-set_else}
 use Rattle.slot_model.proofs.Sides.{paired_after}
-use Rattle.slot_table.specs.declared.view.View.{View}
+use Rattle.slot_table.specs.declared.view.SeatView.{SeatView}
 use Rattle.slot_table.specs.declared.view.Role.TheVariants.{Reference}
-use Rattle.slot_table.specs.Addresses.{ref_at, crumb_at, data_at, crumb_of}
-use Rattle.slot_table.specs.Seats.{total, weight_on, closing_on, free_on}
+use Rattle.slot_table.specs.Addresses.{count_place, side_place, data_place, side_word}
+use Rattle.slot_table.specs.Numbers.{total}
+use Rattle.slot_table.specs.Seats.{weight_on, closing_on, free_on}
 use Rattle.slot_table.specs.Holdings.{SlotOk, SeatOk, ReferenceOk, DraftOk, Holds}
-use Rattle.slot_table.specs.Steps.{recorded}
-use Rattle.slot_table.specs.ReferenceSteps.{installing, placed}
+use Rattle.slot_table.specs.Views.{recorded}
+use Rattle.slot_table.specs.SideSteps.{installing, placed}
 use Rattle.slot_table.proofs.Sums.{total_set, total_at, total_two}
-use Rattle.slot_table.proofs.Rows.{apart, within, data_not_crumb}
+use Rattle.slot_table.proofs.Rows.{apart, within, data_not_side}
 use Rattle.slot_table.proofs.Turns.{turn, turned, Owes, prefix_more, prefix_trans, total_same}
 use Rattle.slot_table.proofs.Kept.{one-same, one-other, weigh, idle-is, Like, role_kept, untouched, draft_kept}
 use Rattle.slot_table.proofs.Below.{below-adds}
-use Rattle.slot_table.proofs.DetachingBoth.{either_is, either_true, either_false, either_first}
+use Rattle.slot_table.proofs.GivingBackBoth.{either_is, either_true, either_false, either_first}
 
 bare-held : (c : Slot) → 1 ≤ count_of c → side_in c ≡ None → c ≡ held (count_of c) (words_of c) None
 bare-held idle h s = absurd (omega arith)
@@ -31,12 +32,12 @@ bare-held (held n ws d) h s = ap (held n ws) s
 bare-held (closing d) h s = absurd (omega arith)
 bare-held (side_of x ws) h s = absurd (omega arith)
 
-no_crumb : (o : Option ℕ) → crumb_of o ≡ 0 → o ≡ None
-no_crumb None e = refl
-no_crumb (Some z) e = absurd (omega arith)
+no_side_word : (o : Option ℕ) → side_word o ≡ 0 → o ≡ None
+no_side_word None e = refl
+no_side_word (Some z) e = absurd (omega arith)
 
-module _ (fits : List ℕ → List ℕ → Type 0) (k : Layout) (ls : List (List ℕ)) (u : View) (d : ℕ) where
-  abbrev v : View
+module _ (fits : List ℕ → List ℕ → Type 0) (k : Layout) (ls : List (List ℕ)) (u : SeatView) (d : ℕ) where
+  abbrev v : SeatView
   v = record u { role = Reference; weight = 1; draft = Some d }
 
   abbrev x : ℕ
@@ -48,15 +49,15 @@ module _ (fits : List ℕ → List ℕ → Type 0) (k : Layout) (ls : List (List
   abbrev wide : ℕ
   wide = k.capacity_words + 2
 
-  abbrev pub won : List Event → View
+  abbrev pub won : List Event → SeatView
   won all = placed 0 (recorded v all (installing 0 v))
 
-  module _ (s : State ℕ View) (r : Holds fits k ls s) (id : ℕ) (at_id : get_elem? s.views id ≡ some v) (fit : fits u.known ws) (free : get_or s.words (crumb_at k x) 0 ≡ 0) where
+  module _ (s : State ℕ SeatView) (r : Holds fits k ls s) (id : ℕ) (at_id : get_elem? s.views id ≡ some v) (fit : fits u.known ws) (free : get_or s.words (side_place k x) 0 ≡ 0) where
     abbrev h : Heap
     h = heap_after k r.all
 
     abbrev now : List ℕ
-    now = set s.words (crumb_at k x) (suc d)
+    now = set s.words (side_place k x) (suc d)
 
     abbrev g : Heap
     g = set (set h x (sided (Some d) (at h x))) d (side_of x ws)
@@ -89,7 +90,7 @@ module _ (fits : List ℕ → List ℕ → Type 0) (k : Layout) (ls : List (List
     d_idle = let t = total_at (free_on d) s.views id v at_id in let f = free_d in let a = here_d.frees in idle-is (at h d) (omega (arith, t, f, a))
 
     side_none : side_in (at h x) ≡ None
-    side_none = no_crumb (side_in (at h x)) (sym here_x.crumb ∙ free)
+    side_none = no_side_word (side_in (at h x)) (sym here_x.side_shown ∙ free)
 
     x_held : at h x ≡ held (count_of (at h x)) (words_of (at h x)) None
     x_held = bare-held (at h x) some_count side_none
@@ -106,19 +107,19 @@ module _ (fits : List ℕ → List ℕ → Type 0) (k : Layout) (ls : List (List
     at_else : (y : ℕ) → y ≢ x → y ≢ d → at g y ≡ at h y
     at_else y n m = at-set_else (set h x (sided (Some d) (at h x))) d y (side_of x ws) m ∙ at-set_else h x y (sided (Some d) (at h x)) n
 
-    crumb_else : (y : ℕ) → y ≢ x → crumb_at k y ≢ crumb_at k x
-    crumb_else y n e = apart wide y x 2 2 n (omega arith) (omega arith) (omega arith) (omega arith) e
+    side_else : (y : ℕ) → y ≢ x → side_place k y ≢ side_place k x
+    side_else y n e = apart wide y x 2 2 n (omega arith) (omega arith) (omega arith) (omega arith) e
 
-    ref_else : (y : ℕ) → ref_at k y ≢ crumb_at k x
+    ref_else : (y : ℕ) → count_place k y ≢ side_place k x
     ref_else y e = dite (ℕ_discrete y x)
-        (λ (q : y ≡ x). let a : ref_at k x ≡ crumb_at k x = ap (ref_at k) (sym q) ∙ e in omega arith)
+        (λ (q : y ≡ x). let a : count_place k x ≡ side_place k x = ap (count_place k) (sym q) ∙ e in omega arith)
         (λ (n : ¬ (y ≡ x)). apart wide y x 1 2 n (omega arith) (omega arith) (omega arith) (omega arith) e)
 
     slot_x : SlotOk k now (set s.views id (won r.all)) x (held (count_of (at h x)) (words_of (at h x)) (Some d))
     slot_x = record {
-      count = get_or-set_other s.words (crumb_at k x) (ref_at k x) (suc d) 0 (ref_else x) ∙ here_x.count;
-      crumb = get_or-set_same s.words (crumb_at k x) (suc d) 0 (omega (arith, r.wide, within wide k.slots x 2 mine_ok.below (omega arith)));
-      content = λ i below. get_or-set_other s.words (crumb_at k x) (data_at k x i) (suc d) 0 (data_not_crumb k x i x (let room = here_x.room in omega arith)) ∙ here_x.content i below;
+      count = get_or-set_other s.words (side_place k x) (count_place k x) (suc d) 0 (ref_else x) ∙ here_x.count;
+      side_shown = get_or-set_same s.words (side_place k x) (suc d) 0 (omega (arith, r.wide, within wide k.slots x 2 mine_ok.below (omega arith)));
+      content = λ i below. get_or-set_other s.words (side_place k x) (data_place k x i) (suc d) 0 (data_not_side k x i x (let room = here_x.room in omega arith)) ∙ here_x.content i below;
       room = here_x.room;
       alive = some_count;
       weights = total_same (weight_on x) s.views id v (won r.all) at_id refl ∙ here_x.weights;
@@ -128,9 +129,9 @@ module _ (fits : List ℕ → List ℕ → Type 0) (k : Layout) (ls : List (List
 
     slot_d : SlotOk k now (set s.views id (won r.all)) d (side_of x ws)
     slot_d = let was_f : total (free_on d) s.views ≡ 1 = here_d.frees ∙ ap idle_in d_idle in let set_f = total_set (free_on d) s.views id v (won r.all) at_id in let e = one-same d in let t = total_at (free_on d) s.views id v at_id in record {
-      count = get_or-set_other s.words (crumb_at k x) (ref_at k d) (suc d) 0 (ref_else d) ∙ (here_d.count ∙ ap count_of d_idle);
-      crumb = get_or-set_other s.words (crumb_at k x) (crumb_at k d) (suc d) 0 (crumb_else d (λ q. x_not_d (sym q))) ∙ (here_d.crumb ∙ ap (λ c. crumb_of (side_in c)) d_idle);
-      content = λ i below. get_or-set_other s.words (crumb_at k x) (data_at k d i) (suc d) 0 (data_not_crumb k d i x (let room = d_ok.1 in omega arith)) ∙ d_ok.2 i below;
+      count = get_or-set_other s.words (side_place k x) (count_place k d) (suc d) 0 (ref_else d) ∙ (here_d.count ∙ ap count_of d_idle);
+      side_shown = get_or-set_other s.words (side_place k x) (side_place k d) (suc d) 0 (side_else d (λ q. x_not_d (sym q))) ∙ (here_d.side_shown ∙ ap (λ c. side_word (side_in c)) d_idle);
+      content = λ i below. get_or-set_other s.words (side_place k x) (data_place k d i) (suc d) 0 (data_not_side k d i x (let room = d_ok.1 in omega arith)) ∙ d_ok.2 i below;
       room = d_ok.1;
       alive = tt;
       weights = total_same (weight_on d) s.views id v (won r.all) at_id refl ∙ (here_d.weights ∙ ap count_of d_idle);
@@ -142,7 +143,7 @@ module _ (fits : List ℕ → List ℕ → Type 0) (k : Layout) (ls : List (List
     paired = paired_after fits k r.all r.legal
 
     -- another reference
-    other_like : (j : ℕ) (y : View) → j ≢ id → get_elem? s.views j ≡ some y → ReferenceOk k h y → Like k h g y
+    other_like : (j : ℕ) (y : SeatView) → j ≢ id → get_elem? s.views j ≡ some y → ReferenceOk k h y → Like k h g y
     other_like j y ne at_j ok = dite (ℕ_discrete y.slot x)
         (λ (q : y.slot ≡ x).
         let two = total_two (weight_on x) s.views id j v y (λ e. ne (sym e)) at_id at_j in let a = weighs_one in let b = weigh x y.slot y.weight (sym q) in let c = ok.weighs.0 in
@@ -196,9 +197,9 @@ module _ (fits : List ℕ → List ℕ → Type 0) (k : Layout) (ls : List (List
       };
       others = λ j y ne at_j. let other = r.seats j y at_j in (
         role_kept k h g y y.role (λ _ ok. other_like j y ne at_j ok) other.role_is,
-        draft_kept k s.words (crumb_at k x) (suc d) y y.draft (λ z i e below. data_not_crumb k z i x below) other.draft_is,
+        draft_kept k s.words (side_place k x) (suc d) y y.draft (λ z i e below. data_not_side k z i x below) other.draft_is,
       );
     }
 
-    pub wins : Holds fits k ls (turned s (crumb_at k x) (suc d) id (won r.all))
+    pub wins : Holds fits k ls (turned s (side_place k x) (suc d) id (won r.all))
     wins = turn fits k ls s r id x 2 (suc d) v (won r.all) (Install x d ws None) (either_is x d) at_id won_owes

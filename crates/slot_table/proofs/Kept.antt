@@ -4,11 +4,11 @@ use Rattle.slot_model.specs.declared.layout.Layout.{Layout}
 use Rattle.slot_model.specs.declared.event.Event.{Event}
 use Rattle.slot_model.specs.History.{Slot, Heap, idle, held, closing, side_of, at, count_of, words_of, side_in, idle_in, Legal, heap_after}
 use Rattle.slot_model.proofs.Sides.{paired_after}
-use Rattle.slot_table.specs.declared.view.View.{View}
+use Rattle.slot_table.specs.declared.view.SeatView.{SeatView}
 use Rattle.slot_table.specs.declared.view.Role.{Role}
 use Rattle.slot_table.specs.declared.view.Role.TheVariants.{Share, Draft, Reference, Closing, Literal, Spent}
-use Rattle.slot_table.specs.Addresses.{data_at}
-use Rattle.slot_table.specs.Seats.{one}
+use Rattle.slot_table.specs.Addresses.{data_place}
+use Rattle.slot_table.specs.Numbers.{one}
 use Rattle.slot_table.specs.Holdings.{SideOk, RoleOk, DraftOk, ReferenceOk}
 
 pub one-same : (x : ℕ) → one x x ≡ 1
@@ -33,17 +33,17 @@ idle-is (closing d) h = absurd (omega arith)
 idle-is (side_of x ws) h = absurd (omega arith)
 
 -- what a reference's slot and known side have to keep
-pub record Like (k : Layout) (h g : Heap) (u : View) : Type 0 where
+pub record Like (k : Layout) (h g : Heap) (u : SeatView) : Type 0 where
   pub same_words : words_of (at g u.slot) ≡ words_of (at h u.slot)
   pub still_sole : u.sole ≡ true → count_of (at h u.slot) ≡ 1 → count_of (at g u.slot) ≡ 1
   pub still_bare : u.bare ≡ true → side_in (at h u.slot) ≡ None → side_in (at g u.slot) ≡ None
   pub same_side : (d : ℕ) → u.side ≡ Some d → SideOk k h u (Some d) → SideOk k g u (Some d)
 
-side_kept : (k : Layout) (h g : Heap) (u : View) (d : Option ℕ) → ((e : ℕ) → d ≡ Some e → SideOk k h u (Some e) → SideOk k g u (Some e)) → SideOk k h u d → SideOk k g u d
+side_kept : (k : Layout) (h g : Heap) (u : SeatView) (d : Option ℕ) → ((e : ℕ) → d ≡ Some e → SideOk k h u (Some e) → SideOk k g u (Some e)) → SideOk k h u d → SideOk k g u d
 side_kept k h g u None same ok = tt
 side_kept k h g u (Some d) same ok = same d refl ok
 
-pub role_kept : (k : Layout) (h g : Heap) (u : View) (ρ : Role) → (ρ ≡ Reference → ReferenceOk k h u → Like k h g u) → RoleOk k h u ρ → RoleOk k g u ρ
+pub role_kept : (k : Layout) (h g : Heap) (u : SeatView) (ρ : Role) → (ρ ≡ Reference → ReferenceOk k h u → Like k h g u) → RoleOk k h u ρ → RoleOk k g u ρ
 role_kept k h g u Share like ok = ok
 role_kept k h g u Draft like ok = ok
 role_kept k h g u Reference like ok = let e = like refl ok in record {
@@ -61,7 +61,7 @@ role_kept k h g u Literal like ok = ok
 role_kept k h g u Spent like ok = ok
 
 -- a reference whose slot and side do not change
-pub untouched : (k : Layout) (h g : Heap) (u : View) → at g u.slot ≡ at h u.slot → ((d : ℕ) → side_in (at h u.slot) ≡ Some d → words_of (at g d) ≡ words_of (at h d)) → Like k h g u
+pub untouched : (k : Layout) (h g : Heap) (u : SeatView) → at g u.slot ≡ at h u.slot → ((d : ℕ) → side_in (at h u.slot) ≡ Some d → words_of (at g d) ≡ words_of (at h d)) → Like k h g u
 untouched k h g u e sides = record {
   same_words = ap words_of e;
   still_sole = λ _ c. ap count_of e ∙ c;
@@ -70,9 +70,9 @@ untouched k h g u e sides = record {
 }
 
 -- a draft's words stand where no data word of its slot changes
-pub draft_kept : (k : Layout) (words : List ℕ) (i n : ℕ) (u : View) (d : Option ℕ) → ((x j : ℕ) → d ≡ Some x → j < k.capacity_words → data_at k x j ≢ i) → DraftOk k words u d → DraftOk k (set words i n) u d
+pub draft_kept : (k : Layout) (words : List ℕ) (i n : ℕ) (u : SeatView) (d : Option ℕ) → ((x j : ℕ) → d ≡ Some x → j < k.capacity_words → data_place k x j ≢ i) → DraftOk k words u d → DraftOk k (set words i n) u d
 draft_kept k words i n u None apart ok = tt
-draft_kept k words i n u (Some x) apart ok = (ok.0, ok.1, λ j h. get_or-set_other words i (data_at k x j) n 0 (apart x j refl (omega (arith, ok.1))) ∙ ok.2 j h)
+draft_kept k words i n u (Some x) apart ok = (ok.0, ok.1, λ j h. get_or-set_other words i (data_place k x j) n 0 (apart x j refl (omega (arith, ok.1))) ∙ ok.2 j h)
 
 -- the side of a slot isn't idle, nor held, nor closing
 pub side_is-side : (fits : List ℕ → List ℕ → Type 0) (k : Layout) (all : List Event) → Legal fits k all → (x d : ℕ) → side_in (at (heap_after k all) x) ≡ Some d → (ws : List ℕ) × (at (heap_after k all) d ≡ side_of x ws)

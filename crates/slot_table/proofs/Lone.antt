@@ -7,7 +7,7 @@ use Rattle.slot_model.specs.declared.event.Event.{Event}
 use Rattle.slot_model.specs.declared.layout.Layout.{Layout}
 use Rattle.slot_model.specs.History.{idle, held, at, released, side_in, Legal}
 use Rattle.slot_model.proofs.Runs.{at-set}
-use Rattle.slot_table.specs.Seats.{times, AllOnce}
+use Rattle.slot_table.specs.Numbers.{times, AllOnce}
 use Rattle.slot_model.specs.declared.event.Event.TheVariants.{Publish, Release, Detach}
 use Rattle.slot_table.specs.Owners.{PassSeen, RefSeen, Adds, Released}
 use Rattle.slot_table.proofs.Counting.{below, below-suc, below-zero, once_length}

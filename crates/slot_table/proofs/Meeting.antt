@@ -3,10 +3,11 @@ use Rattle.std.proofs.Common.{◌≡◌, ℕ, ◌≤◌, inl, inr, List, [], Non
 use Rattle.atomic_table.specs.Table.{Splits, Joins}
 use Rattle.atomic_table.proofs.Lists.{set_else}
 use Rattle.slot_model.specs.declared.layout.Layout.{Layout}
-use Rattle.slot_table.specs.declared.view.View.{View}
+use Rattle.slot_table.specs.declared.view.SeatView.{SeatView}
 use Rattle.slot_table.specs.declared.view.Role.TheVariants.{Share, Reference}
 use Rattle.slot_table.specs.Holdings.{Holds}
-use Rattle.slot_table.specs.Steps.{beside, met_share, met_reference, spent, longer}
+use Rattle.slot_table.specs.PassSteps.{beside, met_share, met_reference}
+use Rattle.slot_table.specs.Views.{spent, longer}
 use Rattle.slot_table.proofs.Kept.{weigh_none}
 use Rattle.slot_table.proofs.Fronts.{longer_prefix, longer_whole, both_prefix}
 use Rattle.slot_table.proofs.Cutting.{cut, merge}
@@ -15,11 +16,11 @@ use Rattle.slot_table.proofs.Rows.{apart}
 use Rattle.slot_table.proofs.Below.{below-both}
 
 module _ (fits : List ℕ → List ℕ → Type 0) (k : Layout) (ls : List (List ℕ)) where
-  module _ (u u' : View) where
-    abbrev v : View
+  module _ (u u' : SeatView) where
+    abbrev v : SeatView
     v = record u { role = Share; draft = None }
 
-    abbrev w : View
+    abbrev w : SeatView
     w = record u' { role = Reference; draft = None; weight = 1; credits = 1; free = [] }
 
     meets_core : (id other : ℕ) → Joins (Holds fits k ls) id v other w (beside v w) spent
@@ -46,8 +47,8 @@ module _ (fits : List ℕ → List ℕ → Type 0) (k : Layout) (ls : List (List
         }
         record { front_is = (r.all, refl); told_is = ([], refl); places_below = λ n past. omega arith; literals_are = tt; draft_is = tt; role_is = (record { light = refl; shared = refl; not_bare = refl; no_side = refl }, refl, refl, refl, refl) }
 
-  module _ (u : View) where
-    abbrev b : View
+  module _ (u : SeatView) where
+    abbrev b : SeatView
     b = record u { role = Reference; draft = None; weight = 1 }
 
     parts_core : (id : ℕ) → 2 ≤ u.credits → Splits (Holds fits k ls) id b (met_share b) (met_reference b)
@@ -70,11 +71,11 @@ module _ (fits : List ℕ → List ℕ → Type 0) (k : Layout) (ls : List (List
           role_is = record { layout_is = known.layout_is; below = known.below; weighs = known.weighs; pays = omega arith; knows = known.knows; sole_is = known.sole_is; bare_is = known.bare_is; side_is = known.side_is };
         }
 
-pub meets_allowed : (fits : List ℕ → List ℕ → Type 0) (k : Layout) (ls : List (List ℕ)) (id other : ℕ) (v w : View) → v.role ≡ Share → v.draft ≡ None → w.role ≡ Reference → w.draft ≡ None → w.weight ≡ 1 → w.credits ≡ 1 → w.free ≡ []
+pub meets_allowed : (fits : List ℕ → List ℕ → Type 0) (k : Layout) (ls : List (List ℕ)) (id other : ℕ) (v w : SeatView) → v.role ≡ Share → v.draft ≡ None → w.role ≡ Reference → w.draft ≡ None → w.weight ≡ 1 → w.credits ≡ 1 → w.free ≡ []
     → Joins (Holds fits k ls) id v other w (beside v w) spent
-meets_allowed fits k ls id other v w role no_draft role' no_draft' light paid no_slots = subst (λ (z : View × View). Joins (Holds fits k ls) id z.0 other z.1 (beside z.0 z.1) spent)
+meets_allowed fits k ls id other v w role no_draft role' no_draft' light paid no_slots = subst (λ (z : SeatView × SeatView). Joins (Holds fits k ls) id z.0 other z.1 (beside z.0 z.1) spent)
     (λ t. (record v { role = sym role t; draft = sym no_draft t }, record w { role = sym role' t; draft = sym no_draft' t; weight = sym light t; credits = sym paid t; free = sym no_slots t })) (meets_core fits k ls v w id other)
 
-pub parts_allowed : (fits : List ℕ → List ℕ → Type 0) (k : Layout) (ls : List (List ℕ)) (id : ℕ) (v : View) → v.role ≡ Reference → v.draft ≡ None → v.weight ≡ 1 → 2 ≤ v.credits → Splits (Holds fits k ls) id v (met_share v) (met_reference v)
-parts_allowed fits k ls id v role no_draft light paid = subst (λ (z : View). Splits (Holds fits k ls) id z (met_share z) (met_reference z))
+pub parts_allowed : (fits : List ℕ → List ℕ → Type 0) (k : Layout) (ls : List (List ℕ)) (id : ℕ) (v : SeatView) → v.role ≡ Reference → v.draft ≡ None → v.weight ≡ 1 → 2 ≤ v.credits → Splits (Holds fits k ls) id v (met_share v) (met_reference v)
+parts_allowed fits k ls id v role no_draft light paid = subst (λ (z : SeatView). Splits (Holds fits k ls) id z (met_share z) (met_reference z))
     (λ t. record v { role = sym role t; draft = sym no_draft t; weight = sym light t }) (parts_core fits k ls v id paid)

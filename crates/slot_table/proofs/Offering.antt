@@ -11,25 +11,25 @@ use Rattle.slot_model.specs.declared.event.Event.TheVariants.{Install}
 use Rattle.slot_model.specs.declared.layout.Layout.{Layout}
 use Rattle.slot_model.specs.History.{Heap, idle, at, count_of, side_in, heap_after, Applies, Legal}
 use Rattle.slot_model.proofs.Runs.{heap_after-snoc}
-use Rattle.slot_table.specs.declared.view.View.{View}
+use Rattle.slot_table.specs.declared.view.SeatView.{SeatView}
 use Rattle.slot_table.specs.declared.view.Role.TheVariants.{Reference}
-use Rattle.slot_table.specs.Addresses.{crumb_at, crumb_of}
+use Rattle.slot_table.specs.Addresses.{side_place, side_word, found_in}
 use Rattle.slot_table.specs.Seats.{weight_on, free_on}
 use Rattle.slot_table.specs.Owners.{side_words_in}
 use Rattle.slot_table.specs.Holdings.{SlotOk, SeatOk, ReferenceOk, SideOk, DraftOk, Holds}
-use Rattle.slot_table.specs.Steps.{Sat, recorded, found_in}
-use Rattle.slot_table.specs.ReferenceSteps.{IsSideKnown, Agrees, installing, placed, Installs}
+use Rattle.slot_table.specs.Views.{Sat, recorded}
+use Rattle.slot_table.specs.SideSteps.{IsSideKnown, Agrees, installing, placed, Installs}
 use Rattle.slot_table.proofs.Sums.{total_at}
 use Rattle.slot_table.proofs.Turns.{turned, prefix_more, prefix_trans, still_legal}
 use Rattle.slot_table.proofs.Kept.{one-same, weigh, idle-is}
 use Rattle.slot_table.proofs.Below.{below-adds}
-use Rattle.slot_table.proofs.DetachingBoth.{found-crumb}
+use Rattle.slot_table.proofs.GivingBackBoth.{found-side_word}
 use Rattle.slot_table.proofs.Unchanging.{Glance, glances}
 use Rattle.slot_table.proofs.Seeing.{some_side, found_known, found_below}
 use Rattle.slot_table.proofs.Installing.{won_applies, wins}
 
-module _ (fits : List ℕ → List ℕ → Type 0) (k : Layout) (ls : List (List ℕ)) (u : View) (d : ℕ) where
-  abbrev v : View
+module _ (fits : List ℕ → List ℕ → Type 0) (k : Layout) (ls : List (List ℕ)) (u : SeatView) (d : ℕ) where
+  abbrev v : SeatView
   v = record u { role = Reference; weight = 1; draft = Some d }
 
   abbrev x : ℕ
@@ -38,15 +38,15 @@ module _ (fits : List ℕ → List ℕ → Type 0) (k : Layout) (ls : List (List
   abbrev ws : List ℕ
   ws = u.written
 
-  abbrev after : ℕ → List Event → View
+  abbrev after : ℕ → List Event → SeatView
   after n all = placed n (recorded v all (installing n v))
 
-  module _ (s : State ℕ View) (r : Holds fits k ls s) (id : ℕ) (at_id : get_elem? s.views id ≡ some v) (fit : fits u.known ws) where
+  module _ (s : State ℕ SeatView) (r : Holds fits k ls s) (id : ℕ) (at_id : get_elem? s.views id ≡ some v) (fit : fits u.known ws) where
     abbrev h : Heap
     h = heap_after k r.all
 
     abbrev n : ℕ
-    n = get_or s.words (crumb_at k x) 0
+    n = get_or s.words (side_place k x) 0
 
     seat : SeatOk k ls s.words r.all v
     seat = r.seats id v at_id
@@ -67,13 +67,13 @@ module _ (fits : List ℕ → List ℕ → Type 0) (k : Layout) (ls : List (List
     d_idle = let t = total_at (free_on d) s.views id v at_id in let e = one-same d in let a = (r.slots d d_ok.0).frees in idle-is (at h d) (omega (arith, t, e, a))
 
     found_is : found_in n ≡ side_in (at h x)
-    found_is = ap found_in here.crumb ∙ found-crumb (side_in (at h x))
+    found_is = ap found_in here.side_shown ∙ found-side_word (side_in (at h x))
 
     bare_none : u.bare ≡ true → n ≡ 0
-    bare_none b = here.crumb ∙ ap crumb_of (mine_ok.bare_is b).1
+    bare_none b = here.side_shown ∙ ap side_word (mine_ok.bare_is b).1
 
     few : n ≤ u.layout.slots
-    few = subst (λ (l : Layout). n ≤ l.slots) (sym mine_ok.layout_is) (found_below fits k ls s r x n here.crumb)
+    few = subst (λ (l : Layout). n ≤ l.slots) (sym mine_ok.layout_is) (found_below fits k ls s r x n here.side_shown)
 
     -- there was a side
     module _ (e : ℕ) (is : n ≡ suc e) where
@@ -123,9 +123,9 @@ module _ (fits : List ℕ → List ℕ → Type 0) (k : Layout) (ls : List (List
         };
       }
 
-      lost : (st : Step ℕ) (cs : List (ℕ × ℕ)) → Holds fits k ls (turned s (crumb_at k x) n id (after n r.all)) × Installs fits st (v, cs) n (after n r.all, cs)
+      lost : (st : Step ℕ) (cs : List (ℕ × ℕ)) → Holds fits k ls (turned s (side_place k x) n id (after n r.all)) × Installs fits st (v, cs) n (after n r.all, cs)
       lost st cs = (
-        subst (λ (m : ℕ). Holds fits k ls (turned s (crumb_at k x) n id (after m r.all))) (sym is) (glances fits k ls s r id x 2 v (after (suc e) r.all) (Install x d ws (Some e)) at_id lost_owes),
+        subst (λ (m : ℕ). Holds fits k ls (turned s (side_place k x) n id (after m r.all))) (sym is) (glances fits k ls s r id x 2 v (after (suc e) r.all) (Install x d ws (Some e)) at_id lost_owes),
         (
           seat.told_is,
           bare_none,
@@ -136,9 +136,9 @@ module _ (fits : List ℕ → List ℕ → Type 0) (k : Layout) (ls : List (List
         ),
       )
 
-    taken : (st : Step ℕ) (cs : List (ℕ × ℕ)) → n ≡ 0 → Holds fits k ls (turned s (crumb_at k x) (suc d) id (after n r.all)) × Installs fits st (v, cs) n (after n r.all, cs)
+    taken : (st : Step ℕ) (cs : List (ℕ × ℕ)) → n ≡ 0 → Holds fits k ls (turned s (side_place k x) (suc d) id (after n r.all)) × Installs fits st (v, cs) n (after n r.all, cs)
     taken st cs is = (
-      subst (λ (m : ℕ). Holds fits k ls (turned s (crumb_at k x) (suc d) id (after m r.all))) (sym is) (wins fits k ls u d s r id at_id fit is),
+      subst (λ (m : ℕ). Holds fits k ls (turned s (side_place k x) (suc d) id (after m r.all))) (sym is) (wins fits k ls u d s r id at_id fit is),
       (
         seat.told_is,
         bare_none,
@@ -150,21 +150,21 @@ module _ (fits : List ℕ → List ℕ → Type 0) (k : Layout) (ls : List (List
       ),
     )
 
-    pub installs_core : (st : Step ℕ) (cs : List (ℕ × ℕ)) → Holds fits k ls (turned s (crumb_at k x) (either (eqb n 0) (suc d) n) id (after n r.all)) × Installs fits st (v, cs) n (after n r.all, cs)
-    installs_core st cs = exchanged n 0 (suc d) (λ m. Holds fits k ls (turned s (crumb_at k x) m id (after n r.all)) × Installs fits st (v, cs) n (after n r.all, cs)) (taken st cs) (λ ne. lost (n - 1) (above n ne) st cs)
+    pub installs_core : (st : Step ℕ) (cs : List (ℕ × ℕ)) → Holds fits k ls (turned s (side_place k x) (either (eqb n 0) (suc d) n) id (after n r.all)) × Installs fits st (v, cs) n (after n r.all, cs)
+    installs_core st cs = exchanged n 0 (suc d) (λ m. Holds fits k ls (turned s (side_place k x) m id (after n r.all)) × Installs fits st (v, cs) n (after n r.all, cs)) (taken st cs) (λ ne. lost (n - 1) (above n ne) st cs)
       where
         above : (m : ℕ) → (m ≡ 0 → ⊥) → m ≡ suc (m - 1)
         above zero not_zero = absurd (not_zero refl)
         above (suc m) not_zero = omega arith
 
-pub installs_allowed : (fits : List ℕ → List ℕ → Type 0) (k : Layout) (ls : List (List ℕ)) (slots id i d new : ℕ) (me : Sat) → new ≡ suc d → me.0.role ≡ Reference → me.0.weight ≡ 1 → me.0.draft ≡ Some d → fits me.0.known me.0.written → i ≡ crumb_at k me.0.slot
+pub installs_allowed : (fits : List ℕ → List ℕ → Type 0) (k : Layout) (ls : List (List ℕ)) (slots id i d new : ℕ) (me : Sat) → new ≡ suc d → me.0.role ≡ Reference → me.0.weight ≡ 1 → me.0.draft ≡ Some d → fits me.0.known me.0.written → i ≡ side_place k me.0.slot
     → Allows (Holds fits k ls) slots id me i (λ n. either (eqb n 0) new n) (Installs fits (step slots i 0 new none) me)
 installs_allowed fits k ls slots id i d new me new_is role light draft fit at_i = subst (λ (z : Sat × ℕ × ℕ). Allows (Holds fits k ls) slots id z.0 z.1 (λ n. either (eqb n 0) z.2 n) (Installs fits (step slots i 0 z.2 none) z.0))
     (λ t. ((record me.0 { role = sym role t; weight = sym light t; draft = sym draft t }, me.1), sym at_i t, sym new_is t))
-    (λ s r flat at_id small. let done = installs_core fits k ls me.0 d s r id at_id fit (step slots i 0 (suc d) none) me.1 in (after fits k ls me.0 d (get_or s.words (crumb_at k me.0.slot) 0) r.all, keeps, tt, done.0, done.1))
+    (λ s r flat at_id small. let done = installs_core fits k ls me.0 d s r id at_id fit (step slots i 0 (suc d) none) me.1 in (after fits k ls me.0 d (get_or s.words (side_place k me.0.slot) 0) r.all, keeps, tt, done.0, done.1))
 
 -- what the step leaves of a view
-pub placed-keeps : (n : ℕ) (v : View) → ((placed n v).role ≡ v.role) × ((placed n v).weight ≡ v.weight) × ((placed n v).credits ≡ v.credits) × ((placed n v).layout ≡ v.layout) × ((placed n v).literals ≡ v.literals)
+pub placed-keeps : (n : ℕ) (v : SeatView) → ((placed n v).role ≡ v.role) × ((placed n v).weight ≡ v.weight) × ((placed n v).credits ≡ v.credits) × ((placed n v).layout ≡ v.layout) × ((placed n v).literals ≡ v.literals)
 placed-keeps zero v = (refl, refl, refl, refl, refl)
 placed-keeps (suc d) v = (refl, refl, refl, refl, refl)
 

@@ -6,19 +6,20 @@ use Rattle.atomic_table.specs.Table.{Splits, Joins}
 use Rattle.atomic_table.proofs.Lists.{set_else}
 use Rattle.slot_model.specs.declared.layout.Layout.{Layout}
 use Rattle.slot_model.specs.History.{heap_after}
-use Rattle.slot_table.specs.declared.view.View.{View}
+use Rattle.slot_table.specs.declared.view.SeatView.{SeatView}
 use Rattle.slot_table.specs.declared.view.Role.TheVariants.{Share, Reference}
 use Rattle.slot_table.specs.Holdings.{SideOk, Holds}
-use Rattle.slot_table.specs.Steps.{spent, longer}
-use Rattle.slot_table.specs.ReferenceSteps.{without_credit, credit, paid, half, other_half}
+use Rattle.slot_table.specs.Views.{spent, longer}
+use Rattle.slot_table.specs.PassSteps.{without_credit, credit}
+use Rattle.slot_table.specs.ReferenceSteps.{paid, half, other_half}
 use Rattle.slot_table.proofs.Kept.{weigh, weigh_not, weigh_none}
 use Rattle.slot_table.proofs.Fronts.{longer_prefix, longer_whole, both_prefix}
 use Rattle.slot_table.proofs.Cutting.{cut, merge}
 use Rattle.slot_table.proofs.Below.{below-more}
 
 module _ (fits : List ℕ → List ℕ → Type 0) (k : Layout) (ls : List (List ℕ)) where
-  module _ (u : View) where
-    abbrev v : View
+  module _ (u : SeatView) where
+    abbrev v : SeatView
     v = record u { role = Share; draft = None }
 
     credit_core : (id : ℕ) → 2 ≤ u.credits → Splits (Holds fits k ls) id v (without_credit v) (credit v)
@@ -34,11 +35,11 @@ module _ (fits : List ℕ → List ℕ → Type 0) (k : Layout) (ls : List (List
         record { front_is = seat.front_is; told_is = seat.told_is; places_below = seat.places_below; literals_are = seat.literals_are; draft_is = tt; role_is = (seat.role_is.0, seat.role_is.1, omega arith, refl) }
         record { front_is = seat.front_is; told_is = (u.front, refl); places_below = λ n past. omega arith; literals_are = seat.literals_are; draft_is = tt; role_is = (seat.role_is.0, record { light = refl; shared = refl; not_bare = refl; no_side = refl }, omega arith, refl) }
 
-  module _ (u u' : View) where
-    abbrev ref : View
+  module _ (u u' : SeatView) where
+    abbrev ref : SeatView
     ref = record u { role = Reference; draft = None }
 
-    abbrev coin : View
+    abbrev coin : SeatView
     coin = record u' { role = Share; draft = None; free = []; places = [] }
 
     pays_core : (id other : ℕ) → Joins (Holds fits k ls) id ref other coin (paid ref coin) spent
@@ -66,8 +67,8 @@ module _ (fits : List ℕ → List ℕ → Type 0) (k : Layout) (ls : List (List
         record { front_is = (r.all, refl); told_is = ([], refl); places_below = λ n past. omega arith; literals_are = tt; draft_is = tt; role_is = (record { light = refl; shared = refl; not_bare = refl; no_side = refl }, refl, refl, refl, refl) }
 
   -- cut in two, each with weight 1
-  module _ (u : View) where
-    abbrev twice : View
+  module _ (u : SeatView) where
+    abbrev twice : SeatView
     twice = record u { role = Reference; weight = 2; draft = None; sole = false; bare = false }
 
     halves_core : (id : ℕ) → 2 ≤ u.credits → Splits (Holds fits k ls) id twice (half twice) (other_half twice)
@@ -91,15 +92,15 @@ module _ (fits : List ℕ → List ℕ → Type 0) (k : Layout) (ls : List (List
         other_side None ok = tt
         other_side (Some e) ok = ok
 
-pub credit_allowed : (fits : List ℕ → List ℕ → Type 0) (k : Layout) (ls : List (List ℕ)) (id : ℕ) (v : View) → v.role ≡ Share → v.draft ≡ None → 2 ≤ v.credits → Splits (Holds fits k ls) id v (without_credit v) (credit v)
-credit_allowed fits k ls id v role no_draft rich = subst (λ (z : View). Splits (Holds fits k ls) id z (without_credit z) (credit z)) (λ t. record v { role = sym role t; draft = sym no_draft t }) (credit_core fits k ls v id rich)
+pub credit_allowed : (fits : List ℕ → List ℕ → Type 0) (k : Layout) (ls : List (List ℕ)) (id : ℕ) (v : SeatView) → v.role ≡ Share → v.draft ≡ None → 2 ≤ v.credits → Splits (Holds fits k ls) id v (without_credit v) (credit v)
+credit_allowed fits k ls id v role no_draft rich = subst (λ (z : SeatView). Splits (Holds fits k ls) id z (without_credit z) (credit z)) (λ t. record v { role = sym role t; draft = sym no_draft t }) (credit_core fits k ls v id rich)
 
-pub pays_allowed : (fits : List ℕ → List ℕ → Type 0) (k : Layout) (ls : List (List ℕ)) (id other : ℕ) (v w : View) → v.role ≡ Reference → v.draft ≡ None → w.role ≡ Share → w.draft ≡ None → w.free ≡ [] → w.places ≡ []
+pub pays_allowed : (fits : List ℕ → List ℕ → Type 0) (k : Layout) (ls : List (List ℕ)) (id other : ℕ) (v w : SeatView) → v.role ≡ Reference → v.draft ≡ None → w.role ≡ Share → w.draft ≡ None → w.free ≡ [] → w.places ≡ []
     → Joins (Holds fits k ls) id v other w (paid v w) spent
-pays_allowed fits k ls id other v w role no_draft role' no_draft' no_slots no_places = subst (λ (z : View × View). Joins (Holds fits k ls) id z.0 other z.1 (paid z.0 z.1) spent)
+pays_allowed fits k ls id other v w role no_draft role' no_draft' no_slots no_places = subst (λ (z : SeatView × SeatView). Joins (Holds fits k ls) id z.0 other z.1 (paid z.0 z.1) spent)
     (λ t. (record v { role = sym role t; draft = sym no_draft t }, record w { role = sym role' t; draft = sym no_draft' t; free = sym no_slots t; places = sym no_places t })) (pays_core fits k ls v w id other)
 
-pub halves_allowed : (fits : List ℕ → List ℕ → Type 0) (k : Layout) (ls : List (List ℕ)) (id : ℕ) (v : View) → v.role ≡ Reference → v.weight ≡ 2 → v.draft ≡ None → v.sole ≡ false → v.bare ≡ false → 2 ≤ v.credits
+pub halves_allowed : (fits : List ℕ → List ℕ → Type 0) (k : Layout) (ls : List (List ℕ)) (id : ℕ) (v : SeatView) → v.role ≡ Reference → v.weight ≡ 2 → v.draft ≡ None → v.sole ≡ false → v.bare ≡ false → 2 ≤ v.credits
     → Splits (Holds fits k ls) id v (half v) (other_half v)
-halves_allowed fits k ls id v role light no_draft not_sole not_bare rich = subst (λ (z : View). Splits (Holds fits k ls) id z (half z) (other_half z))
+halves_allowed fits k ls id v role light no_draft not_sole not_bare rich = subst (λ (z : SeatView). Splits (Holds fits k ls) id z (half z) (other_half z))
     (λ t. record v { role = sym role t; weight = sym light t; draft = sym no_draft t; sole = sym not_sole t; bare = sym not_bare t }) (halves_core fits k ls v id rich)

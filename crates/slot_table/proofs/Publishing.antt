@@ -8,30 +8,32 @@ use Rattle.slot_model.specs.declared.event.Event.TheVariants.{Publish}
 use Rattle.slot_model.specs.declared.layout.Layout.{Layout}
 use Rattle.slot_model.specs.History.{Heap, idle, held, at, count_of, words_of, side_in, idle_in, closing_in, heap_after}
 use Rattle.slot_model.proofs.Runs.{length-heap_after, heap_after-snoc, at-set, at-set_else}
-use Rattle.slot_table.specs.declared.view.View.{View}
+use Rattle.slot_table.specs.declared.view.SeatView.{SeatView}
 use Rattle.slot_table.specs.declared.view.Role.TheVariants.{Draft, Reference}
-use Rattle.slot_table.specs.Addresses.{ref_at, crumb_at, data_at}
-use Rattle.slot_table.specs.Seats.{one, times, weight_on, closing_on, free_on}
+use Rattle.slot_table.specs.Addresses.{count_place, side_place, data_place}
+use Rattle.slot_table.specs.Numbers.{one, times}
+use Rattle.slot_table.specs.Seats.{weight_on, closing_on, free_on}
 use Rattle.slot_table.specs.Holdings.{ReferenceOk, Holds}
-use Rattle.slot_table.specs.Steps.{Sat, recorded, publishing, published, Publishes}
+use Rattle.slot_table.specs.Views.{Sat, recorded}
+use Rattle.slot_table.specs.DraftSteps.{publishing, published, Publishes}
 use Rattle.slot_table.proofs.Sums.{total_set, total_at}
-use Rattle.slot_table.proofs.Rows.{within, data_not_ref}
+use Rattle.slot_table.proofs.Rows.{within, data_not_count}
 use Rattle.slot_table.proofs.Turns.{turn_one, OwesOne, prefix_more, prefix_trans}
 use Rattle.slot_table.proofs.Kept.{one-same, one-other, weigh, weigh_not, weigh_none, idle-is, role_kept, untouched, side_not_idle, draft_kept}
 use Rattle.slot_table.proofs.Below.{below-adds}
 use Rattle.slot_table.proofs.Turns.{still_legal}
 
-module _ (fits : List ℕ → List ℕ → Type 0) (k : Layout) (ls : List (List ℕ)) (u : View) (d : ℕ) where
-  abbrev v : View
+module _ (fits : List ℕ → List ℕ → Type 0) (k : Layout) (ls : List (List ℕ)) (u : SeatView) (d : ℕ) where
+  abbrev v : SeatView
   v = record u { role = Draft; draft = Some d }
 
-  abbrev after : List Event → View
+  abbrev after : List Event → SeatView
   after all = published (recorded v all (publishing v))
 
   abbrev wide : ℕ
   wide = k.capacity_words + 2
 
-  publish_owes : (s : State ℕ View) (r : Holds fits k ls s) (id : ℕ) → get_elem? s.views id ≡ some v → 0 < length u.written
+  publish_owes : (s : State ℕ SeatView) (r : Holds fits k ls s) (id : ℕ) → get_elem? s.views id ≡ some v → 0 < length u.written
       → OwesOne fits k ls s r id d 1 1 v (after r.all) (Publish d u.written) (held 1 u.written None)
   publish_owes s r id at_id some_words =
       let seat = r.seats id v at_id in
@@ -70,9 +72,9 @@ module _ (fits : List ℕ → List ℕ → Type 0) (k : Layout) (ls : List (List
           frees = let z = one-other y d ne in omega (arith, z);
         };
         here = record {
-          count = get_or-set_same s.words (ref_at k d) 1 0 (omega (arith, r.wide, within wide k.slots d 1 seat.draft_is.0 (omega arith)));
-          crumb = get_or-set_other s.words (ref_at k d) (crumb_at k d) 1 0 (λ e. let e' : crumb_at k d ≡ ref_at k d = e in omega arith) ∙ (here.crumb ∙ ap (λ c. elim (side_in c) as (λ _. ℕ) [ None ↦ 0 | Some z ↦ suc z ]) is_idle);
-          content = λ j below. get_or-set_other s.words (ref_at k d) (data_at k d j) 1 0 (λ e. let e' : data_at k d j ≡ ref_at k d = e in omega arith) ∙ seat.draft_is.2 j below;
+          count = get_or-set_same s.words (count_place k d) 1 0 (omega (arith, r.wide, within wide k.slots d 1 seat.draft_is.0 (omega arith)));
+          side_shown = get_or-set_other s.words (count_place k d) (side_place k d) 1 0 (λ e. let e' : side_place k d ≡ count_place k d = e in omega arith) ∙ (here.side_shown ∙ ap (λ c. elim (side_in c) as (λ _. ℕ) [ None ↦ 0 | Some z ↦ suc z ]) is_idle);
+          content = λ j below. get_or-set_other s.words (count_place k d) (data_place k d j) 1 0 (λ e. let e' : data_place k d j ≡ count_place k d = e in omega arith) ∙ seat.draft_is.2 j below;
           room = bound;
           alive = omega arith;
           weights = omega (arith, sum_w, here.weights, no_count, light d, weight_here);
@@ -102,11 +104,11 @@ module _ (fits : List ℕ → List ℕ → Type 0) (k : Layout) (ls : List (List
               (at-set_else h d x.slot _ (λ (same : x.slot ≡ d). let w = weigh d x.slot x.weight (sym same) in let some_weight = ok.weighs.0 in absurd (omega (arith, none_here, here.weights, no_count, w, some_weight))))
               (λ e its. ap words_of (at-set_else h d e _ (λ q. side_not_idle fits k r.all r.legal x.slot e its (ap (at h) q ∙ is_idle)))))
               other.role_is,
-          draft_kept k s.words (ref_at k d) 1 x x.draft (λ y i e below. data_not_ref k y i d below) other.draft_is,
+          draft_kept k s.words (count_place k d) 1 x x.draft (λ y i e below. data_not_count k y i d below) other.draft_is,
         );
       }
 
-  publish_core : (slots id : ℕ) (cs : List (ℕ × ℕ)) (st : Step ℕ) → 0 < length u.written → Allows (Holds fits k ls) slots id (v, cs) (ref_at k d) (λ _. 1) (λ _. Publishes fits st (v, cs) 1)
+  publish_core : (slots id : ℕ) (cs : List (ℕ × ℕ)) (st : Step ℕ) → 0 < length u.written → Allows (Holds fits k ls) slots id (v, cs) (count_place k d) (λ _. 1) (λ _. Publishes fits st (v, cs) 1)
   publish_core slots id cs st some_words s r flat at_id small =
       let seat = r.seats id v at_id in let owes = publish_owes s r id at_id some_words in (
         after r.all,
@@ -116,7 +118,7 @@ module _ (fits : List ℕ → List ℕ → Type 0) (k : Layout) (ls : List (List
         (r.all, seat.front_is, still_legal fits k r.all _ v.layout seat.role_is.0 r.legal owes.applies, refl, refl),
       )
 
-pub publish_allowed : (fits : List ℕ → List ℕ → Type 0) (k : Layout) (ls : List (List ℕ)) (slots id i : ℕ) (me : Sat) (d : ℕ) → me.0.role ≡ Draft → me.0.draft ≡ Some d → 0 < length me.0.written → i ≡ ref_at k d
+pub publish_allowed : (fits : List ℕ → List ℕ → Type 0) (k : Layout) (ls : List (List ℕ)) (slots id i : ℕ) (me : Sat) (d : ℕ) → me.0.role ≡ Draft → me.0.draft ≡ Some d → 0 < length me.0.written → i ≡ count_place k d
     → Allows (Holds fits k ls) slots id me i (λ _. 1) (λ _. Publishes fits (step slots i 1 0 none) me 1)
 publish_allowed fits k ls slots id i me d role is some_words at_i = subst (λ (z : Sat × ℕ). Allows (Holds fits k ls) slots id z.0 z.1 (λ _. 1) (λ _. Publishes fits (step slots i 1 0 none) z.0 1))
     (λ t. ((record me.0 { role = sym role t; draft = sym is t }, me.1), sym at_i t)) (publish_core fits k ls me.0 d slots id me.1 (step slots i 1 0 none) some_words)

@@ -5,17 +5,19 @@ use mathlib.Core.List.{IsPrefix}
 use Rattle.slot_model.specs.declared.event.Event.{Event}
 use Rattle.slot_model.specs.declared.layout.Layout.{Layout}
 use Rattle.slot_model.specs.History.{put}
-use Rattle.slot_table.specs.declared.view.View.{View}
-use Rattle.slot_table.specs.Holdings.{Below}
-use Rattle.slot_table.specs.Steps.{recorded, found_in, frees_of, beside, met_share, met_reference}
-use Rattle.slot_table.specs.Seats.{Once}
-use Rattle.slot_table.specs.ReferenceSteps.{IsSideKnown, without_credit, credit, paid, doubled, half, other_half, asked, wrote, word_in, looked, armed, placed, unarmed, change, cleared}
+use Rattle.slot_table.specs.declared.view.SeatView.{SeatView}
+use Rattle.slot_table.specs.Numbers.{Below, Once}
+use Rattle.slot_table.specs.Views.{recorded, frees_of}
+use Rattle.slot_table.specs.Addresses.{found_in}
+use Rattle.slot_table.specs.PassSteps.{beside, met_share, met_reference, without_credit, credit}
+use Rattle.slot_table.specs.SideSteps.{IsSideKnown, looked, armed, placed, unarmed, change, sideless}
+use Rattle.slot_table.specs.ReferenceSteps.{paid, doubled, half, other_half, asked, wrote, word_in}
 use Rattle.slot_table.specs.Ties.{IsPass, IsDraft, IsRef, IsLoose}
 use Rattle.slot_table.proofs.Below.{below-adds, below-more, below-both}
 use Rattle.slot_table.proofs.Writing.{length-put}
 
 -- a pass that gave a credit
-pub pass_without_credit : (v : View) (fs : List ℕ) (room credits : ℕ) → 2 ≤ credits → IsPass v fs room credits → IsPass (without_credit v) fs room (credits - 1)
+pub pass_without_credit : (v : SeatView) (fs : List ℕ) (room credits : ℕ) → 2 ≤ credits → IsPass v fs room credits → IsPass (without_credit v) fs room (credits - 1)
 pass_without_credit v fs room credits rich i = let most = i.most in record {
   role = i.role;
   no_draft = i.no_draft;
@@ -35,7 +37,7 @@ if_some (Some d) P each = each d refl
 
 module _ (fits : List ℕ → List ℕ → Type 0) where
   -- a known side of a view with the same words
-  pub known_on : (v w : View) (side : Option ℕ) → w.layout ≡ v.layout → w.known ≡ v.known → w.side_words ≡ v.side_words → IfSome side (IsSideKnown fits v) → IfSome side (IsSideKnown fits w)
+  pub known_on : (v w : SeatView) (side : Option ℕ) → w.layout ≡ v.layout → w.known ≡ v.known → w.side_words ≡ v.side_words → IfSome side (IsSideKnown fits v) → IfSome side (IsSideKnown fits w)
   known_on v w None layout known words ok = tt
   known_on v w (Some d) layout known words ok = record {
     below = subst (λ (l : Layout). d < l.slots) (sym layout) ok.below;
@@ -43,7 +45,7 @@ module _ (fits : List ℕ → List ℕ → Type 0) where
     fit = subst (λ (z : List ℕ × List ℕ). fits z.0 z.1) (λ t. (sym known t, sym words t)) ok.fit;
   }
 
-  module _ (v : View) (slot : ℕ) (sole bare : Bool) (side : Option ℕ) (all : List Event) (e : Event) where
+  module _ (v : SeatView) (slot : ℕ) (sole bare : Bool) (side : Option ℕ) (all : List Event) (e : Event) where
     -- it asked whether it is the only one
     pub ref_asked : (n : ℕ) → IsPrefix v.front all → (v.sole ≡ true → n ≡ 1) → IsRef fits v slot sole bare side → IsRef fits (asked n (recorded v all e)) slot (eqb n 1) bare side
     ref_asked n begins knew i = record {
@@ -105,8 +107,8 @@ module _ (fits : List ℕ → List ℕ → Type 0) where
     }
 
     -- it was given a second time, and a credit of the pass p went to it
-    module _ (p : View) (begins : IsPrefix (paid v (credit p)).front all) (goes_on : IsPrefix v.front (paid v (credit p)).front) (i : IsRef fits v slot sole bare side) where
-      abbrev twice : View
+    module _ (p : SeatView) (begins : IsPrefix (paid v (credit p)).front all) (goes_on : IsPrefix v.front (paid v (credit p)).front) (i : IsRef fits v slot sole bare side) where
+      abbrev twice : SeatView
       twice = doubled (recorded (paid v (credit p)) all e)
 
       pub ref_half : IsRef fits (half twice) slot false false side
@@ -148,8 +150,8 @@ module _ (fits : List ℕ → List ℕ → Type 0) where
       }
 
     -- a draft was offered as its slot's side
-    module _ (w : View) (d count : ℕ) (begins : IsPrefix (armed v w).front all) (first : IsPrefix v.front (armed v w).front) (second : IsPrefix w.front (armed v w).front) (i : IsRef fits v slot sole bare side) (draft : IsDraft w d count) where
-      abbrev pub offered : ℕ → View
+    module _ (w : SeatView) (d count : ℕ) (begins : IsPrefix (armed v w).front all) (first : IsPrefix v.front (armed v w).front) (second : IsPrefix w.front (armed v w).front) (i : IsRef fits v slot sole bare side) (draft : IsDraft w d count) where
+      abbrev pub offered : ℕ → SeatView
       offered n = placed n (recorded (armed v w) all e)
 
       offered_below : Below (all ++ e ∷ []) ((v.places ++ w.places) ++ length all ∷ [])
@@ -205,15 +207,15 @@ module _ (fits : List ℕ → List ℕ → Type 0) where
       }
 
     -- it met a pass, and its slot lost the side
-    module _ (p : View) (same : v.layout ≡ p.layout) (fs : List ℕ) (room credits : ℕ) (begins : IsPrefix (beside p v).front all) (first : IsPrefix p.front (beside p v).front) (second : IsPrefix v.front (beside p v).front) (o : IsPass p fs room credits) (i : IsRef fits v slot sole bare side) where
-      abbrev pub parted : ℕ → View
-      parted n = cleared n (recorded (beside p v) all e)
+    module _ (p : SeatView) (same : v.layout ≡ p.layout) (fs : List ℕ) (room credits : ℕ) (begins : IsPrefix (beside p v).front all) (first : IsPrefix p.front (beside p v).front) (second : IsPrefix v.front (beside p v).front) (o : IsPass p fs room credits) (i : IsRef fits v slot sole bare side) where
+      abbrev pub parted : ℕ → SeatView
+      parted n = sideless n (recorded (beside p v) all e)
 
       parted_below : Below (all ++ e ∷ []) ((p.places ++ v.places) ++ length all ∷ [])
       parted_below = below-adds (beside p v).front all e (p.places ++ v.places) begins (below-both p.front v.front (beside p v).front p.places v.places first second o.below_front i.below_front)
 
-      pub ref_cleared : (n : ℕ) → sole ≡ true → IsRef fits (met_reference (parted n)) slot sole true None
-      ref_cleared zero is_sole = record {
+      pub ref_sideless : (n : ℕ) → sole ≡ true → IsRef fits (met_reference (parted n)) slot sole true None
+      ref_sideless zero is_sole = record {
         role = refl;
         slot_is = i.slot_is;
         below = subst (λ (l : Layout). slot < l.slots) same i.below;
@@ -230,7 +232,7 @@ module _ (fits : List ℕ → List ℕ → Type 0) where
         side_known = tt;
         below_front = λ n past. omega arith;
       }
-      ref_cleared (suc d) is_sole = record {
+      ref_sideless (suc d) is_sole = record {
         role = refl;
         slot_is = i.slot_is;
         below = subst (λ (l : Layout). slot < l.slots) same i.below;
@@ -261,8 +263,8 @@ module _ (fits : List ℕ → List ℕ → Type 0) where
         below_front = parted_below;
       }
 
-      pub pass_cleared : (d : ℕ) → Once p.layout.slots (parted (suc d)).free → IsPass (met_share (parted (suc d))) (fs ++ d ∷ []) room credits
-      pass_cleared d once = let mine = o.credits_are in let theirs = i.one_credit in let list : p.free ++ d ∷ [] ≡ fs ++ d ∷ [] = ap (λ (l : List ℕ). l ++ d ∷ []) o.free_is in record {
+      pub pass_sideless : (d : ℕ) → Once p.layout.slots (parted (suc d)).free → IsPass (met_share (parted (suc d))) (fs ++ d ∷ []) room credits
+      pass_sideless d once = let mine = o.credits_are in let theirs = i.one_credit in let list : p.free ++ d ∷ [] ≡ fs ++ d ∷ [] = ap (λ (l : List ℕ). l ++ d ∷ []) o.free_is in record {
         role = refl;
         no_draft = refl;
         stake = o.stake;

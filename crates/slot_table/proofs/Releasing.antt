@@ -11,15 +11,17 @@ use Rattle.slot_model.specs.declared.event.Event.TheVariants.{Release}
 use Rattle.slot_model.specs.declared.layout.Layout.{Layout}
 use Rattle.slot_model.specs.History.{Slot, Heap, idle, held, closing, side_of, at, released, count_of, words_of, side_in, idle_in, closing_in, heap_after, Legal}
 use Rattle.slot_model.proofs.Runs.{length-heap_after, at-set, at-set_else}
-use Rattle.slot_table.specs.declared.view.View.{View}
+use Rattle.slot_table.specs.declared.view.SeatView.{SeatView}
 use Rattle.slot_table.specs.declared.view.Role.{Role}
 use Rattle.slot_table.specs.declared.view.Role.TheVariants.{Share, Reference, Closing}
-use Rattle.slot_table.specs.Addresses.{ref_at, crumb_at, data_at, crumb_of}
-use Rattle.slot_table.specs.Seats.{total, weight_on, closing_on, free_on}
+use Rattle.slot_table.specs.Addresses.{count_place, side_place, data_place, side_word}
+use Rattle.slot_table.specs.Numbers.{total}
+use Rattle.slot_table.specs.Seats.{weight_on, closing_on, free_on}
 use Rattle.slot_table.specs.Holdings.{SlotOk, RoleOk, DraftOk, Holds, ReferenceOk}
-use Rattle.slot_table.specs.Steps.{Sat, Releases}
+use Rattle.slot_table.specs.Views.{Sat}
+use Rattle.slot_table.specs.ReferenceSteps.{Releases}
 use Rattle.slot_table.proofs.Sums.{total_set, total_at, total_two}
-use Rattle.slot_table.proofs.Rows.{within, data_not_ref}
+use Rattle.slot_table.proofs.Rows.{within, data_not_count}
 use Rattle.slot_table.proofs.Turns.{turned, Same, prefix_more, prefix_trans, total_same, OwesOne, still_legal, turn_one}
 use Rattle.slot_table.proofs.Kept.{weigh, weigh_not, weigh_none, role_kept, draft_kept, side_is-side, untouched}
 use Rattle.slot_table.proofs.Below.{below-adds}
@@ -34,8 +36,8 @@ held-is (held n ws d) h = refl
 held-is (closing d) h = absurd (omega arith)
 held-is (side_of x ws) h = absurd (omega arith)
 
-module _ (fits : List ℕ → List ℕ → Type 0) (k : Layout) (ls : List (List ℕ)) (u : View) where
-  abbrev v : View
+module _ (fits : List ℕ → List ℕ → Type 0) (k : Layout) (ls : List (List ℕ)) (u : SeatView) where
+  abbrev v : SeatView
   v = record u { role = Reference; weight = 1; draft = None }
 
   abbrev x : ℕ
@@ -45,15 +47,15 @@ module _ (fits : List ℕ → List ℕ → Type 0) (k : Layout) (ls : List (List
   wide = k.capacity_words + 2
 
   -- the view with the role ρ and the history all, after the event
-  abbrev gone : Role → List Event → Bool → View
+  abbrev gone : Role → List Event → Bool → SeatView
   gone ρ all last = record v { role = ρ; weight = 0; known = []; sole = false; bare = false; side = None; side_words = []; front = all ++ Release x last ∷ []; places = v.places ++ length all ∷ [] }
 
-  module _ (s : State ℕ View) (r : Holds fits k ls s) (id : ℕ) (at_id : get_elem? s.views id ≡ some v) where
+  module _ (s : State ℕ SeatView) (r : Holds fits k ls s) (id : ℕ) (at_id : get_elem? s.views id ≡ some v) where
     abbrev h : Heap
     h = heap_after k r.all
 
     abbrev n : ℕ
-    n = get_or s.words (ref_at k x) 0
+    n = get_or s.words (count_place k x) 0
 
     abbrev ws : List ℕ
     ws = words_of (at h x)
@@ -74,25 +76,25 @@ module _ (fits : List ℕ → List ℕ → Type 0) (k : Layout) (ls : List (List
     was_held : at h x ≡ held n ws dx
     was_held = let low = some_count in let b = here.count in held-is (at h x) (omega arith) ∙ ap (λ m. held m ws dx) (sym b)
 
-    in_table : ref_at k x < length s.words
+    in_table : count_place k x < length s.words
     in_table = omega (arith, r.wide, within wide k.slots x 1 my_slot (omega arith))
 
     abbrev now : List ℕ
-    now = set s.words (ref_at k x) (n - 1)
+    now = set s.words (count_place k x) (n - 1)
 
-    now_there : get_or now (ref_at k x) 0 ≡ n - 1
-    now_there = get_or-set_same s.words (ref_at k x) (n - 1) 0 in_table
+    now_there : get_or now (count_place k x) 0 ≡ n - 1
+    now_there = get_or-set_same s.words (count_place k x) (n - 1) 0 in_table
 
-    crumb_there : get_or now (crumb_at k x) 0 ≡ crumb_of dx
-    crumb_there = get_or-set_other s.words (ref_at k x) (crumb_at k x) (n - 1) 0 (λ e. let e' : crumb_at k x ≡ ref_at k x = e in omega arith) ∙ here.crumb
+    side_there : get_or now (side_place k x) 0 ≡ side_word dx
+    side_there = get_or-set_other s.words (count_place k x) (side_place k x) (n - 1) 0 (λ e. let e' : side_place k x ≡ count_place k x = e in omega arith) ∙ here.side_shown
 
     -- no side is slot x
     not_x : (y e : ℕ) → side_in (at h y) ≡ Some e → e ≢ x
     not_x y e its q = let was = side_is-side fits k r.all r.legal y e its in let none : count_of (at h x) ≡ 0 = ap (λ z. count_of (at h z)) (sym q) ∙ ap count_of was.1 in
         let low = some_count in let word_is = here.count in absurd (omega (arith, none, low, word_is))
 
-    others_kept : (c : Slot) → ((j : ℕ) (y : View) → j ≢ id → get_elem? s.views j ≡ some y → ReferenceOk k h y → y.slot ≡ x → (words_of c ≡ ws) × (side_in c ≡ dx) × (y.sole ≡ true → count_of (at h y.slot) ≡ 1 → ⊥))
-        → (j : ℕ) (y : View) → j ≢ id → get_elem? s.views j ≡ some y → RoleOk k (set h x c) y y.role × DraftOk k now y y.draft
+    others_kept : (c : Slot) → ((j : ℕ) (y : SeatView) → j ≢ id → get_elem? s.views j ≡ some y → ReferenceOk k h y → y.slot ≡ x → (words_of c ≡ ws) × (side_in c ≡ dx) × (y.sole ≡ true → count_of (at h y.slot) ≡ 1 → ⊥))
+        → (j : ℕ) (y : SeatView) → j ≢ id → get_elem? s.views j ≡ some y → RoleOk k (set h x c) y y.role × DraftOk k now y y.draft
     others_kept c alike j y ne at_j = let other = r.seats j y at_j in (
       role_kept k h (set h x c) y y.role (λ _ ok. dite (ℕ_discrete y.slot x)
           (λ (same : y.slot ≡ x). let t = alike j y ne at_j ok same in let c_is : at (set h x c) y.slot ≡ c = ap (at (set h x c)) same ∙ at-set h x c (subst (λ (m : ℕ). x < m) (sym (length-heap_after k r.all)) my_slot) in record {
@@ -103,7 +105,7 @@ module _ (fits : List ℕ → List ℕ → Type 0) (k : Layout) (ls : List (List
           })
           (λ (apart : ¬ (y.slot ≡ x)). untouched k h (set h x c) y (at-set_else h x y.slot c apart) (λ e its. ap words_of (at-set_else h x e c (not_x y.slot e its)))))
           other.role_is,
-      draft_kept k s.words (ref_at k x) (n - 1) y y.draft (λ z i e below. data_not_ref k z i x below) other.draft_is,
+      draft_kept k s.words (count_place k x) (n - 1) y y.draft (λ z i e below. data_not_count k z i x below) other.draft_is,
     )
 
     same_else : (ρ : Role) (last : Bool) (y : ℕ) → y ≢ x → Same y v (gone ρ r.all last)
@@ -130,7 +132,7 @@ module _ (fits : List ℕ → List ℕ → Type 0) (k : Layout) (ls : List (List
       elsewhere = same_else Closing true;
       here = record {
         count = now_there ∙ ap (λ m. m - 1) is_one;
-        crumb = crumb_there;
+        side_shown = side_there;
         content = λ i below. absurd (omega arith);
         room = omega arith;
         alive = tt;
@@ -157,8 +159,8 @@ module _ (fits : List ℕ → List ℕ → Type 0) (k : Layout) (ls : List (List
       elsewhere = same_else Share false;
       here = record {
         count = now_there;
-        crumb = crumb_there;
-        content = λ i below. get_or-set_other s.words (ref_at k x) (data_at k x i) (n - 1) 0 (λ e. let e' : data_at k x i ≡ ref_at k x = e in omega arith) ∙ here.content i below;
+        side_shown = side_there;
+        content = λ i below. get_or-set_other s.words (count_place k x) (data_place k x i) (n - 1) 0 (λ e. let e' : data_place k x i ≡ count_place k x = e in omega arith) ∙ here.content i below;
         room = here.room;
         alive = (let low = some_count in omega arith);
         weights = (sums Share false).0;
@@ -173,7 +175,7 @@ module _ (fits : List ℕ → List ℕ → Type 0) (k : Layout) (ls : List (List
       ));
     }
 
-    pub releases_core : (st : Step ℕ) (cs : List (ℕ × ℕ)) → (w : View) × Holds fits k ls (turned s (ref_at k x) (n - 1) id w) × Releases fits st (v, cs) n (w, cs)
+    pub releases_core : (st : Step ℕ) (cs : List (ℕ × ℕ)) → (w : SeatView) × Holds fits k ls (turned s (count_place k x) (n - 1) id w) × Releases fits st (v, cs) n (w, cs)
     releases_core st cs = dite (ℕ_discrete n 1)
         (λ (is : n ≡ 1). (
           gone Closing r.all true,
@@ -204,9 +206,9 @@ module _ (fits : List ℕ → List ℕ → Type 0) (k : Layout) (ls : List (List
           ),
         ))
 
-pub releases_allowed : (fits : List ℕ → List ℕ → Type 0) (k : Layout) (ls : List (List ℕ)) (slots id i : ℕ) (me : Sat) → me.0.role ≡ Reference → me.0.weight ≡ 1 → me.0.draft ≡ None → i ≡ ref_at k me.0.slot
+pub releases_allowed : (fits : List ℕ → List ℕ → Type 0) (k : Layout) (ls : List (List ℕ)) (slots id i : ℕ) (me : Sat) → me.0.role ≡ Reference → me.0.weight ≡ 1 → me.0.draft ≡ None → i ≡ count_place k me.0.slot
     → Allows (Holds fits k ls) slots id me i (λ n. (n + (2 ^ 64 - 1)) % 2 ^ 64) (Releases fits (step slots i 1 0 none) me)
 releases_allowed fits k ls slots id i me role light no_draft at_i = subst (λ (z : Sat × ℕ). Allows (Holds fits k ls) slots id z.0 z.1 (λ n. (n + (2 ^ 64 - 1)) % 2 ^ 64) (Releases fits (step slots i 1 0 none) z.0))
     (λ t. ((record me.0 { role = sym role t; weight = sym light t; draft = sym no_draft t }, me.1), sym at_i t))
     (λ s r flat at_id small. let done = releases_core fits k ls me.0 s r id at_id (step slots i 1 0 none) me.1 in
-    (done.0, keeps, tt, subst (λ (m : ℕ). Holds fits k ls (turned s (ref_at k me.0.slot) m id done.0)) (sym (down_one _ (some_count fits k ls me.0 s r id at_id) small)) done.1, done.2))
+    (done.0, keeps, tt, subst (λ (m : ℕ). Holds fits k ls (turned s (count_place k me.0.slot) m id done.0)) (sym (down_one _ (some_count fits k ls me.0 s r id at_id) small)) done.1, done.2))

@@ -3,7 +3,7 @@ use Rattle.std.proofs.Common.{◌≡◌, ◌≢◌, ℕ, suc, ◌+◌, ◌*◌, 
 use native.Mathlib.Decide.{dec_le, ℕ_discrete}
 use mathlib.Core.Logic.{dite}
 use Rattle.slot_model.specs.declared.layout.Layout.{Layout}
-use Rattle.slot_table.specs.Addresses.{ref_at, crumb_at, data_at}
+use Rattle.slot_table.specs.Addresses.{count_place, side_place, data_place}
 
 further : (x y b : ℕ) → x < y → x * b + b ≤ y * b
 further x y b h = let a : suc x * b ≤ y * b = mul-le-mul_right b h in omega (arith, suc-mul x b)
@@ -17,13 +17,13 @@ apart b x y o p n o0 ob p0 pb = dite (dec_le y x)
 pub within : (b n x o : ℕ) → x < n → o ≤ b → x * b + o < n * b + 1
 within b n x o h ob = let m = further x n b h in let i : ℕ = x * b in let j : ℕ = n * b in let m' : i + b ≤ j = m in omega arith
 
--- no data word is a reference word or a crumb word, nor one of another slot
-pub data_not_ref : (k : Layout) (x i y : ℕ) → i < k.capacity_words → data_at k x i ≢ ref_at k y
-data_not_ref k x i y h = dite (ℕ_discrete x y)
-    (λ (same : x ≡ y). λ e. let e' : data_at k x i ≡ ref_at k x = e ∙ ap (ref_at k) (sym same) in omega arith)
-    (λ (ne : ¬ (x ≡ y)). λ e. let e' : data_at k x i ≡ ref_at k y = e in let f : x * (k.capacity_words + 2) + (3 + i) ≡ ref_at k y = omega arith in apart (k.capacity_words + 2) x y (3 + i) 1 ne (omega arith) (omega arith) (omega arith) (omega arith) f)
+-- no data word is a slot's reference count or the word that shows its side, nor one of another slot
+pub data_not_count : (k : Layout) (x i y : ℕ) → i < k.capacity_words → data_place k x i ≢ count_place k y
+data_not_count k x i y h = dite (ℕ_discrete x y)
+    (λ (same : x ≡ y). λ e. let e' : data_place k x i ≡ count_place k x = e ∙ ap (count_place k) (sym same) in omega arith)
+    (λ (ne : ¬ (x ≡ y)). λ e. let e' : data_place k x i ≡ count_place k y = e in let f : x * (k.capacity_words + 2) + (3 + i) ≡ count_place k y = omega arith in apart (k.capacity_words + 2) x y (3 + i) 1 ne (omega arith) (omega arith) (omega arith) (omega arith) f)
 
-pub data_not_crumb : (k : Layout) (x i y : ℕ) → i < k.capacity_words → data_at k x i ≢ crumb_at k y
-data_not_crumb k x i y h = dite (ℕ_discrete x y)
-    (λ (same : x ≡ y). λ e. let e' : data_at k x i ≡ crumb_at k x = e ∙ ap (crumb_at k) (sym same) in omega arith)
-    (λ (ne : ¬ (x ≡ y)). λ e. let e' : data_at k x i ≡ crumb_at k y = e in let f : x * (k.capacity_words + 2) + (3 + i) ≡ crumb_at k y = omega arith in apart (k.capacity_words + 2) x y (3 + i) 2 ne (omega arith) (omega arith) (omega arith) (omega arith) f)
+pub data_not_side : (k : Layout) (x i y : ℕ) → i < k.capacity_words → data_place k x i ≢ side_place k y
+data_not_side k x i y h = dite (ℕ_discrete x y)
+    (λ (same : x ≡ y). λ e. let e' : data_place k x i ≡ side_place k x = e ∙ ap (side_place k) (sym same) in omega arith)
+    (λ (ne : ¬ (x ≡ y)). λ e. let e' : data_place k x i ≡ side_place k y = e in let f : x * (k.capacity_words + 2) + (3 + i) ≡ side_place k y = omega arith in apart (k.capacity_words + 2) x y (3 + i) 2 ne (omega arith) (omega arith) (omega arith) (omega arith) f)

@@ -5,11 +5,13 @@ use native.Mathlib.Decide.{dec_le}
 use Rattle.atomic_table.specs.Table.{Splits, Joins}
 use Rattle.atomic_table.proofs.Lists.{set_else}
 use Rattle.slot_model.specs.declared.layout.Layout.{Layout}
-use Rattle.slot_table.specs.declared.view.View.{View}
+use Rattle.slot_table.specs.declared.view.SeatView.{SeatView}
 use Rattle.slot_table.specs.declared.view.Role.TheVariants.{Share, Draft}
-use Rattle.slot_table.specs.Seats.{times, one, free_on, closes, in_option}
+use Rattle.slot_table.specs.Numbers.{times, one}
+use Rattle.slot_table.specs.Seats.{free_on, closes, in_option}
 use Rattle.slot_table.specs.Holdings.{Holds, LiteralsOk, Plain, RoleOk}
-use Rattle.slot_table.specs.Steps.{last_of, but_last, without_draft, drafted, joined, spent, frees_of, longer}
+use Rattle.slot_table.specs.PassSteps.{last_of, but_last, without_draft, drafted, joined}
+use Rattle.slot_table.specs.Views.{spent, frees_of, longer}
 use Rattle.slot_table.proofs.Sums.{total_at, times_append}
 use Rattle.slot_table.proofs.Kept.{one-same, weigh_none}
 use Rattle.slot_table.proofs.Fronts.{longer_prefix, longer_whole, both_prefix}
@@ -28,8 +30,8 @@ times_frees x None fs = omega arith
 times_frees x (Some d) fs = omega arith
 
 module _ (fits : List ℕ → List ℕ → Type 0) (k : Layout) (ls : List (List ℕ)) where
-  module _ (u : View) where
-    abbrev v : View
+  module _ (u : SeatView) where
+    abbrev v : SeatView
     v = record u { role = Share; draft = None }
 
     drafts_core : (id : ℕ) → 0 < length u.free → 2 ≤ u.credits → Splits (Holds fits k ls) id v (without_draft v) (drafted v)
@@ -55,8 +57,8 @@ module _ (fits : List ℕ → List ℕ → Type 0) (k : Layout) (ls : List (List
         }
 
     -- a share takes in what is left of another seat: a share, or a draft
-    module _ (u' : View) (ρ : Role) (left : Option ℕ) where
-      abbrev w : View
+    module _ (u' : SeatView) (ρ : Role) (left : Option ℕ) where
+      abbrev w : SeatView
       w = record u' { role = ρ; draft = left }
 
       -- such a seat has no weight, is no closing seat, and has a credit
@@ -90,19 +92,19 @@ module _ (fits : List ℕ → List ℕ → Type 0) (k : Layout) (ls : List (List
           record { front_is = (r.all, refl); told_is = ([], refl); places_below = λ n past. omega arith; literals_are = tt; draft_is = tt; role_is = (record { light = refl; shared = refl; not_bare = refl; no_side = refl }, refl, refl, refl, refl) }
 
 -- the same, for views that are known by equations
-pub drafts_allowed : (fits : List ℕ → List ℕ → Type 0) (k : Layout) (ls : List (List ℕ)) (id : ℕ) (v : View) → v.role ≡ Share → v.draft ≡ None → 0 < length v.free → 2 ≤ v.credits → Splits (Holds fits k ls) id v (without_draft v) (drafted v)
-drafts_allowed fits k ls id v role no_draft some_free paid = subst (λ (z : View). Splits (Holds fits k ls) id z (without_draft z) (drafted z)) (λ t. record v { role = sym role t; draft = sym no_draft t }) (drafts_core fits k ls v id some_free paid)
+pub drafts_allowed : (fits : List ℕ → List ℕ → Type 0) (k : Layout) (ls : List (List ℕ)) (id : ℕ) (v : SeatView) → v.role ≡ Share → v.draft ≡ None → 0 < length v.free → 2 ≤ v.credits → Splits (Holds fits k ls) id v (without_draft v) (drafted v)
+drafts_allowed fits k ls id v role no_draft some_free paid = subst (λ (z : SeatView). Splits (Holds fits k ls) id z (without_draft z) (drafted z)) (λ t. record v { role = sym role t; draft = sym no_draft t }) (drafts_core fits k ls v id some_free paid)
 
 -- a share, or a draft of slot d
-abbrev pub IsLeft : View → Type 0
+abbrev pub IsLeft : SeatView → Type 0
 IsLeft w = ((w.role ≡ Share) × (w.draft ≡ None)) ⊎ ((d : ℕ) × (w.role ≡ Draft) × (w.draft ≡ Some d))
 
-pub joins_allowed : (fits : List ℕ → List ℕ → Type 0) (k : Layout) (ls : List (List ℕ)) (id other : ℕ) (v w : View) → v.role ≡ Share → v.draft ≡ None → IsLeft w → Joins (Holds fits k ls) id v other w (joined v w) spent
+pub joins_allowed : (fits : List ℕ → List ℕ → Type 0) (k : Layout) (ls : List (List ℕ)) (id other : ℕ) (v w : SeatView) → v.role ≡ Share → v.draft ≡ None → IsLeft w → Joins (Holds fits k ls) id v other w (joined v w) spent
 joins_allowed fits k ls id other v w role no_draft left = ⊎_elim
     (λ (t : (w.role ≡ Share) × (w.draft ≡ None)). lifted Share None t.0 t.1 record { plain = λ h ok. (ok.1, ok.2); opens = refl; knows = λ e. e })
     (λ (t : (d : ℕ) × (w.role ≡ Draft) × (w.draft ≡ Some d)). lifted Draft (Some t.0) t.1 t.2 record { plain = λ h ok. (ok.1, ok.2); opens = refl; knows = λ e. e })
     left
   where
     lifted : (ρ : Role) (o : Option ℕ) → w.role ≡ ρ → w.draft ≡ o → Loose fits k ls v w ρ o → Joins (Holds fits k ls) id v other w (joined v w) spent
-    lifted ρ o role' draft' loose = subst (λ (z : View × View). Joins (Holds fits k ls) id z.0 other z.1 (joined z.0 z.1) spent)
+    lifted ρ o role' draft' loose = subst (λ (z : SeatView × SeatView). Joins (Holds fits k ls) id z.0 other z.1 (joined z.0 z.1) spent)
         (λ t. (record v { role = sym role t; draft = sym no_draft t }, record w { role = sym role' t; draft = sym draft' t })) (joins_core fits k ls v w ρ o loose id other)

@@ -7,12 +7,12 @@ use Rattle.slot_model.specs.declared.event.Event.TheVariants.{Sole}
 use Rattle.slot_model.specs.declared.layout.Layout.{Layout}
 use Rattle.slot_model.specs.History.{Heap, at, count_of, heap_after, Applies}
 use Rattle.slot_model.proofs.Runs.{heap_after-snoc}
-use Rattle.slot_table.specs.declared.view.View.{View}
+use Rattle.slot_table.specs.declared.view.SeatView.{SeatView}
 use Rattle.slot_table.specs.declared.view.Role.TheVariants.{Reference}
-use Rattle.slot_table.specs.Addresses.{ref_at}
+use Rattle.slot_table.specs.Addresses.{count_place}
 use Rattle.slot_table.specs.Seats.{weight_on}
 use Rattle.slot_table.specs.Holdings.{SlotOk, SeatOk, ReferenceOk, Holds}
-use Rattle.slot_table.specs.Steps.{Sat, recorded}
+use Rattle.slot_table.specs.Views.{Sat, recorded}
 use Rattle.slot_table.specs.ReferenceSteps.{asking, asked, Asks}
 use Rattle.slot_table.proofs.Sums.{total_at}
 use Rattle.slot_table.proofs.Turns.{turned, prefix_more, prefix_trans, still_legal}
@@ -20,21 +20,21 @@ use Rattle.slot_table.proofs.Kept.{weigh}
 use Rattle.slot_table.proofs.Below.{below-adds}
 use Rattle.slot_table.proofs.Unchanging.{Glance, glances}
 
-module _ (fits : List ℕ → List ℕ → Type 0) (k : Layout) (ls : List (List ℕ)) (u : View) where
-  abbrev v : View
+module _ (fits : List ℕ → List ℕ → Type 0) (k : Layout) (ls : List (List ℕ)) (u : SeatView) where
+  abbrev v : SeatView
   v = record u { role = Reference; weight = 1; draft = None }
 
   abbrev x : ℕ
   x = u.slot
 
-  module _ (s : State ℕ View) (r : Holds fits k ls s) (id : ℕ) (at_id : get_elem? s.views id ≡ some v) where
+  module _ (s : State ℕ SeatView) (r : Holds fits k ls s) (id : ℕ) (at_id : get_elem? s.views id ≡ some v) where
     abbrev h : Heap
     h = heap_after k r.all
 
     abbrev n : ℕ
-    n = get_or s.words (ref_at k x) 0
+    n = get_or s.words (count_place k x) 0
 
-    abbrev saw : View
+    abbrev saw : SeatView
     saw = asked n (recorded v r.all (asking n v))
 
     seat : SeatOk k ls s.words r.all v
@@ -85,14 +85,14 @@ module _ (fits : List ℕ → List ℕ → Type 0) (k : Layout) (ls : List (List
       };
     }
 
-    pub soles_core : (st : Step ℕ) (cs : List (ℕ × ℕ)) → (w : View) × Holds fits k ls (turned s (ref_at k x) n id w) × Asks fits st (v, cs) n (w, cs)
+    pub soles_core : (st : Step ℕ) (cs : List (ℕ × ℕ)) → (w : SeatView) × Holds fits k ls (turned s (count_place k x) n id w) × Asks fits st (v, cs) n (w, cs)
     soles_core st cs = (
       saw,
       glances fits k ls s r id x 1 v saw (Sole x (eqb n 1)) at_id sole_owes,
       (knew, (r.all, seat.front_is, still_legal fits k r.all (Sole x (eqb n 1)) v.layout mine_ok.layout_is r.legal applies, refl, refl)),
     )
 
-pub soles_allowed : (fits : List ℕ → List ℕ → Type 0) (k : Layout) (ls : List (List ℕ)) (slots id i : ℕ) (me : Sat) → me.0.role ≡ Reference → me.0.weight ≡ 1 → me.0.draft ≡ None → i ≡ ref_at k me.0.slot
+pub soles_allowed : (fits : List ℕ → List ℕ → Type 0) (k : Layout) (ls : List (List ℕ)) (slots id i : ℕ) (me : Sat) → me.0.role ≡ Reference → me.0.weight ≡ 1 → me.0.draft ≡ None → i ≡ count_place k me.0.slot
     → Allows (Holds fits k ls) slots id me i (λ n. n) (Asks fits (step slots i 0 0 none) me)
 soles_allowed fits k ls slots id i me role light no_draft at_i = subst (λ (z : Sat × ℕ). Allows (Holds fits k ls) slots id z.0 z.1 (λ n. n) (Asks fits (step slots i 0 0 none) z.0))
     (λ t. ((record me.0 { role = sym role t; weight = sym light t; draft = sym no_draft t }, me.1), sym at_i t))

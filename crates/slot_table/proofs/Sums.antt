@@ -2,7 +2,7 @@
 use Rattle.std.proofs.Common.{◌≡◌, ◌≢◌, ℕ, zero, suc, ◌+◌, ◌≤◌, List, [], ◌∷◌, ◌++◌, set, refl, sym, ap, arith}
 use mathlib.Core.Option.{some, some-injective, some-ne-none}
 use lib.ListN.{get_elem?}
-use Rattle.slot_table.specs.Seats.{total, times}
+use Rattle.slot_table.specs.Numbers.{total, times}
 
 module _ {X : Type 0} (f : X → ℕ) where
   -- one view changes

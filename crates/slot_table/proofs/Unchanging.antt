@@ -7,12 +7,12 @@ use Rattle.atomic_table.specs.Table.{State}
 use Rattle.slot_model.specs.declared.event.Event.{Event}
 use Rattle.slot_model.specs.declared.layout.Layout.{Layout}
 use Rattle.slot_model.specs.History.{Heap, idle, at, next, Applies, heap_after}
-use Rattle.slot_table.specs.declared.view.View.{View}
+use Rattle.slot_table.specs.declared.view.SeatView.{SeatView}
 use Rattle.slot_table.specs.Seats.{weight_on, closing_on, free_on}
 use Rattle.slot_table.specs.Holdings.{IsActive, SlotOk, SeatOk, RoleOk, DraftOk, Holds}
 use Rattle.slot_table.proofs.Turns.{turned, Same, total_same, turn_one}
 
-module _ (fits : List ℕ → List ℕ → Type 0) (k : Layout) (ls : List (List ℕ)) (s : State ℕ View) (r : Holds fits k ls s) (id x o : ℕ) (v w : View) (e : Event) where
+module _ (fits : List ℕ → List ℕ → Type 0) (k : Layout) (ls : List (List ℕ)) (s : State ℕ SeatView) (r : Holds fits k ls s) (id x o : ℕ) (v w : SeatView) (e : Event) where
   abbrev h : Heap
   h = heap_after k r.all
 
@@ -48,7 +48,7 @@ module _ (fits : List ℕ → List ℕ → Type 0) (k : Layout) (ls : List (List
     elsewhere = λ y ne. owes.sums y;
     here = let was = r.slots x owes.below in subst (λ (ws : List ℕ). SlotOk k ws (set s.views id w) x (at h x)) (sym same_words) record {
       count = was.count;
-      crumb = was.crumb;
+      side_shown = was.side_shown;
       content = was.content;
       room = was.room;
       alive = was.alive;

@@ -10,15 +10,16 @@ use Rattle.slot_model.specs.declared.event.Event.TheVariants.{Write}
 use Rattle.slot_model.specs.declared.layout.Layout.{Layout}
 use Rattle.slot_model.specs.History.{Slot, Heap, held, side_of, at, next, written, put, count_of, words_of, side_in, idle_in, closing_in, heap_after, Legal}
 use Rattle.slot_model.proofs.Runs.{length-heap_after, heap_after-snoc, at-set, at-set_else}
-use Rattle.slot_table.specs.declared.view.View.{View}
+use Rattle.slot_table.specs.declared.view.SeatView.{SeatView}
 use Rattle.slot_table.specs.declared.view.Role.TheVariants.{Reference}
-use Rattle.slot_table.specs.Addresses.{ref_at, crumb_at, data_at, crumb_of}
-use Rattle.slot_table.specs.Seats.{total, in_option, weight_on, closing_on, free_on}
+use Rattle.slot_table.specs.Addresses.{count_place, side_place, data_place, side_word}
+use Rattle.slot_table.specs.Numbers.{total}
+use Rattle.slot_table.specs.Seats.{in_option, weight_on, closing_on, free_on}
 use Rattle.slot_table.specs.Holdings.{SlotOk, SeatOk, ReferenceOk, SideOk, Holds}
-use Rattle.slot_table.specs.Steps.{Sat, recorded}
+use Rattle.slot_table.specs.Views.{Sat, recorded}
 use Rattle.slot_table.specs.ReferenceSteps.{Writes, word_in, writing, wrote}
 use Rattle.slot_table.proofs.Sums.{total_at, total_two}
-use Rattle.slot_table.proofs.Rows.{apart, within, data_not_ref, data_not_crumb}
+use Rattle.slot_table.proofs.Rows.{apart, within, data_not_count, data_not_side}
 use Rattle.slot_table.proofs.Turns.{turned, prefix_more, prefix_trans, total_same, OwesOne, still_legal, turn_one}
 use Rattle.slot_table.proofs.Kept.{one-same, weigh, Like, role_kept, untouched, draft_kept, side_is-side}
 use Rattle.slot_table.proofs.Below.{below-adds}
@@ -44,8 +45,8 @@ put-else ws j w i low ne below = dite (ℕ_discrete j (length ws))
     let b = ne_eqb j (length ws) n in let l : i < length (set ws j w) = subst (λ c. i < length (cond c (ws ++ w ∷ []) (set ws j w))) b below in let e = length-set ws j w in
     (omega (arith, l, e), ap (λ c. get_or (cond c (ws ++ w ∷ []) (set ws j w)) i 0) b ∙ get_or-set_other ws j i w 0 ne))
 
-module _ (fits : List ℕ → List ℕ → Type 0) (k : Layout) (ls : List (List ℕ)) (u : View) (j word : ℕ) where
-  abbrev v : View
+module _ (fits : List ℕ → List ℕ → Type 0) (k : Layout) (ls : List (List ℕ)) (u : SeatView) (j word : ℕ) where
+  abbrev v : SeatView
   v = record u { role = Reference; weight = 1; draft = None; sole = true; bare = true }
 
   abbrev x : ℕ
@@ -54,10 +55,10 @@ module _ (fits : List ℕ → List ℕ → Type 0) (k : Layout) (ls : List (List
   abbrev wide : ℕ
   wide = k.capacity_words + 2
 
-  abbrev after : List Event → View
+  abbrev after : List Event → SeatView
   after all = record (recorded v all (Write x j word)) { known = put u.known j word }
 
-  module _ (s : State ℕ View) (r : Holds fits k ls s) (id : ℕ) (at_id : get_elem? s.views id ≡ some v) (low : j ≤ length u.known) (high : j < k.capacity_words) where
+  module _ (s : State ℕ SeatView) (r : Holds fits k ls s) (id : ℕ) (at_id : get_elem? s.views id ≡ some v) (low : j ≤ length u.known) (high : j < k.capacity_words) where
     abbrev h : Heap
     h = heap_after k r.all
 
@@ -94,17 +95,17 @@ module _ (fits : List ℕ → List ℕ → Type 0) (k : Layout) (ls : List (List
     abbrev now : List ℕ
     now = set s.words i word
 
-    at_j : data_at k x j ≡ i
+    at_j : data_place k x j ≡ i
     at_j = omega arith
 
     slot_x : SlotOk k now (set s.views id (after r.all)) x c
     slot_x = record {
-      count = get_or-set_other s.words i (ref_at k x) word 0 (λ q. data_not_ref k x j x high (at_j ∙ sym q)) ∙ (here.count ∙ one_count);
-      crumb = get_or-set_other s.words i (crumb_at k x) word 0 (λ q. data_not_crumb k x j x high (at_j ∙ sym q)) ∙ (here.crumb ∙ ap crumb_of no_side);
+      count = get_or-set_other s.words i (count_place k x) word 0 (λ q. data_not_count k x j x high (at_j ∙ sym q)) ∙ (here.count ∙ one_count);
+      side_shown = get_or-set_other s.words i (side_place k x) word 0 (λ q. data_not_side k x j x high (at_j ∙ sym q)) ∙ (here.side_shown ∙ ap side_word no_side);
       content = λ m below. dite (ℕ_discrete m j)
-          (λ (q : m ≡ j). ap (λ (z : ℕ). get_or now (data_at k x z) 0) q ∙ (ap (λ (z : ℕ). get_or now z 0) at_j ∙ (get_or-set_same s.words i word 0 (omega (arith, r.wide, within wide k.slots x (3 + j) mine_ok.below (omega arith))) ∙ sym (ap (λ z. get_or (put u.known j word) z 0) q ∙ put-at u.known j word low))))
+          (λ (q : m ≡ j). ap (λ (z : ℕ). get_or now (data_place k x z) 0) q ∙ (ap (λ (z : ℕ). get_or now z 0) at_j ∙ (get_or-set_same s.words i word 0 (omega (arith, r.wide, within wide k.slots x (3 + j) mine_ok.below (omega arith))) ∙ sym (ap (λ z. get_or (put u.known j word) z 0) q ∙ put-at u.known j word low))))
           (λ (n : ¬ (m ≡ j)). let t = put-else u.known j word m low n below in
-          get_or-set_other s.words i (data_at k x m) word 0 (λ q. n (let q' : data_at k x m ≡ i = q in omega arith)) ∙ (here.content m (subst (λ l. m < length l) mine_ok.knows t.0) ∙ (ap (λ l. get_or l m 0) (sym mine_ok.knows) ∙ sym t.1)));
+          get_or-set_other s.words i (data_place k x m) word 0 (λ q. n (let q' : data_place k x m ≡ i = q in omega arith)) ∙ (here.content m (subst (λ l. m < length l) mine_ok.knows t.0) ∙ (ap (λ l. get_or l m 0) (sym mine_ok.knows) ∙ sym t.1)));
       room = length-put u.known j word k.capacity_words low high (subst (λ l. length l ≤ k.capacity_words) (sym mine_ok.knows) here.room);
       alive = omega arith;
       weights = total_same (weight_on x) s.views id v (after r.all) at_id refl ∙ (here.weights ∙ one_count);
@@ -113,19 +114,19 @@ module _ (fits : List ℕ → List ℕ → Type 0) (k : Layout) (ls : List (List
     }
 
     -- no other reference is on the slot, so that what others know stays
-    other_like : (m : ℕ) (y : View) → m ≢ id → get_elem? s.views m ≡ some y → ReferenceOk k h y → Like k h (set h x c) y
+    other_like : (m : ℕ) (y : SeatView) → m ≢ id → get_elem? s.views m ≡ some y → ReferenceOk k h y → Like k h (set h x c) y
     other_like m y ne at_m ok =
         let apart_x : y.slot ≢ x = (λ q. let two = total_two (weight_on x) s.views id m v y (λ e. ne (sym e)) at_id at_m in let a = weigh x x 1 refl in let b = weigh x y.slot y.weight (sym q) in let d = ok.weighs.0 in let t = here.weights in let o = one_count in omega (arith, two, a, b, d, t, o)) in
         untouched k h (set h x c) y (at-set_else h x y.slot c apart_x) (λ e side. let was = side_is-side fits k r.all r.legal y.slot e side in
         ap words_of (at-set_else h x e c (λ q. let a : held 1 u.known None ≡ side_of y.slot was.0 = sym was_held ∙ (ap (at h) (sym q) ∙ was.1) in cc)))
 
     -- a draft's slot is idle, and x is held
-    not_theirs : (m : ℕ) (y : View) (z p : ℕ) → get_elem? s.views m ≡ some y → y.draft ≡ Some z → p < k.capacity_words → data_at k z p ≢ i
+    not_theirs : (m : ℕ) (y : SeatView) (z p : ℕ) → get_elem? s.views m ≡ some y → y.draft ≡ Some z → p < k.capacity_words → data_place k z p ≢ i
     not_theirs m y z p at_m drafted below q =
         let in_free : 1 ≤ free_on z y = (let e : in_option z y.draft ≡ 1 = ap (in_option z) drafted ∙ one-same z in omega (arith, e)) in
         let t = total_at (free_on z) s.views m y at_m in
         let z_not_x : z ≢ x = (λ e. let f : total (free_on z) s.views ≡ 0 = ap (λ a. total (free_on a) s.views) e ∙ (here.frees ∙ ap idle_in was_held) in omega (arith, in_free, t, f)) in
-        apart wide z x (3 + p) (3 + j) z_not_x (omega arith) (omega arith) (omega arith) (omega arith) (let q' : data_at k z p ≡ i = q in omega arith)
+        apart wide z x (3 + p) (3 + j) z_not_x (omega arith) (omega arith) (omega arith) (omega arith) (let q' : data_place k z p ≡ i = q in omega arith)
 
     my_side : (d : Option ℕ) → SideOk k h v d → SideOk k (set h x c) (after r.all) d
     my_side None ok = tt
@@ -173,10 +174,10 @@ module _ (fits : List ℕ → List ℕ → Type 0) (k : Layout) (ls : List (List
     )
 
   -- the step is on word j, which its place tells
-  pub told_place : (l : Layout) (i : ℕ) → l ≡ k → i ≡ data_at k x j → word_in i (record u { layout = l }) ≡ j
-  told_place l i same at_i = ap (λ (z : Layout). i - data_at z x 0) same ∙ omega (arith, at_i)
+  pub told_place : (l : Layout) (i : ℕ) → l ≡ k → i ≡ data_place k x j → word_in i (record u { layout = l }) ≡ j
+  told_place l i same at_i = ap (λ (z : Layout). i - data_place z x 0) same ∙ omega (arith, at_i)
 
-  writes_at : (slots id i : ℕ) (cs : List (ℕ × ℕ)) → i ≡ data_at k x j → j ≤ length u.known → j < k.capacity_words → u.layout ≡ k
+  writes_at : (slots id i : ℕ) (cs : List (ℕ × ℕ)) → i ≡ data_place k x j → j ≤ length u.known → j < k.capacity_words → u.layout ≡ k
       → Allows (Holds fits k ls) slots id (v, cs) i (λ _. word) (λ _. Writes fits (step slots i word 0 none) (v, cs) word)
   writes_at slots id i cs at_i low high same s r flat at_id small =
       let done = writes_core s r id at_id low high in let seat = r.seats id v at_id in let j_is : word_in i v ≡ j = told_place u.layout i same at_i in
@@ -184,11 +185,11 @@ module _ (fits : List ℕ → List ℕ → Type 0) (k : Layout) (ls : List (List
         wrote i word (recorded v r.all (writing i word v)),
         keeps,
         tt,
-        subst (λ (z : ℕ × View). Holds fits k ls (turned s z.0 word id z.1)) (λ t. (place t, record (recorded v r.all (Write x (sym j_is t) word)) { known = put u.known (sym j_is t) word })) done.0,
+        subst (λ (z : ℕ × SeatView). Holds fits k ls (turned s z.0 word id z.1)) (λ t. (place t, record (recorded v r.all (Write x (sym j_is t) word)) { known = put u.known (sym j_is t) word })) done.0,
         (r.all, seat.front_is, subst (λ (m : ℕ). Legal fits v.layout (r.all ++ Write x m word ∷ [])) (sym j_is) done.1, refl, refl),
       )
 
 pub writes_allowed : (fits : List ℕ → List ℕ → Type 0) (k : Layout) (ls : List (List ℕ)) (slots id i j word : ℕ) (me : Sat) → me.0.layout ≡ k → me.0.role ≡ Reference → me.0.weight ≡ 1 → me.0.draft ≡ None → me.0.sole ≡ true → me.0.bare ≡ true
-    → j ≤ length me.0.known → j < k.capacity_words → i ≡ data_at k me.0.slot j → Allows (Holds fits k ls) slots id me i (λ _. word) (λ _. Writes fits (step slots i word 0 none) me word)
+    → j ≤ length me.0.known → j < k.capacity_words → i ≡ data_place k me.0.slot j → Allows (Holds fits k ls) slots id me i (λ _. word) (λ _. Writes fits (step slots i word 0 none) me word)
 writes_allowed fits k ls slots id i j word me same role light no_draft sole bare low high at_i = subst (λ (z : Sat). Allows (Holds fits k ls) slots id z i (λ _. word) (λ _. Writes fits (step slots i word 0 none) z word))
     (λ t. (record me.0 { role = sym role t; weight = sym light t; draft = sym no_draft t; sole = sym sole t; bare = sym bare t }, me.1)) (writes_at fits k ls me.0 j word slots id i me.1 at_i low high same)

@@ -1,4 +1,4 @@
--- What readers ask of a reference's words: what is read after a sequence of writes.
+-- What is read of a reference's words after a sequence of writes. Read by callers.
 use Rattle.std.specs.Prelude.{◌≡◌, ℕ, ◌≤◌, eqb, cond, List, [], ◌∷◌, length, get_or}
 use Rattle.slot_model.specs.History.{put}
 
@@ -19,4 +19,5 @@ last_written k word (p ∷ ps) = last_written k (cond (eqb p.0 k) p.1 word) ps
 
 -- each word is read as it was last written, and else as it was published
 abbrev pub LastWriteIsRead : Type 0
-LastWriteIsRead = (ws : List ℕ) (ps : List (ℕ × ℕ)) (k : ℕ) → MayWrite ws ps → get_or (after_writes ws ps) k 0 ≡ last_written k (get_or ws k 0) ps
+LastWriteIsRead = (ws : List ℕ) (ps : List (ℕ × ℕ)) (k : ℕ) → MayWrite ws ps
+    → get_or (after_writes ws ps) k 0 ≡ last_written k (get_or ws k 0) ps

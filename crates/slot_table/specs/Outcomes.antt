@@ -1,4 +1,4 @@
--- How an install went, as the side that was found.
+-- How an install went, as the side that was found. Read by callers.
 use Rattle.std.specs.Prelude.{ℕ, Option, Some, None}
 use Rattle.slot_table.specs.declared.side.Installed.{Installed}
 use Rattle.slot_table.specs.declared.side.Installed.TheVariants.{Won, Lost}

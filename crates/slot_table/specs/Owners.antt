@@ -1,4 +1,5 @@
--- What contracts see of a heap and of its owners, and what its calls do to them. No seat, view or word of the table is named.
+-- What contracts see of a heap and of its owners, and what its calls do to them. Read by callers: no seat, view or word of the table
+-- is named.
 use Rattle.std.specs.Prelude.{◌≡◌, ℕ, ◌+◌, ◌<◌, ◌⊎◌, MatchBool, List, [], ◌∷◌, ◌++◌, length, Bool, true, false, Option, Some, None}
 use mathlib.Core.List.{IsPrefix}
 use Rattle.atomic_table.specs.Seated.{TableId}
@@ -6,7 +7,7 @@ use Rattle.slot_model.specs.declared.event.Event.{Event}
 use Rattle.slot_model.specs.declared.event.Event.TheVariants.{Retain, Release, Install, Detach}
 use Rattle.slot_model.specs.declared.layout.Layout.{Layout}
 use Rattle.slot_model.specs.History.{Heap, idle, at, words_of, Legal, heap_after}
-use Rattle.slot_table.specs.Seats.{AllOnce}
+use Rattle.slot_table.specs.Numbers.{AllOnce}
 
 -- which heap it is, with its layout and the UTF-8 bytes of its literals
 pub record HeapId : Type 0 where
@@ -57,9 +58,11 @@ pub record LiteralSeen : Type 0 where
 abbrev pub opened_pass : HeapId → List ℕ → PassSeen
 opened_pass z free = record { heap = z; front = []; places = []; free = free; credits = z.layout.credits }
 
--- The event e came after the whole history of the heap, which began with the front. The history with e is legal, the new front is that, and its place is new
+-- The event e came after the whole history of the heap, which began with the front. The history with e is legal, the new front is that,
+-- and its place is new
 abbrev pub Adds : (List ℕ → List ℕ → Type 0) → Layout → List Event → List ℕ → Event → List Event → List ℕ → Type 0
-Adds fits k front places e front' places' = (all : List Event) × IsPrefix front all × (front' ≡ all ++ e ∷ []) × (places' ≡ places ++ length all ∷ []) × Legal fits k front'
+Adds fits k front places e front' places' = (all : List Event) × IsPrefix front all × (front' ≡ all ++ e ∷ [])
+    × (places' ≡ places ++ length all ∷ []) × Legal fits k front'
 
 -- of two fronts this is the longer one, which the other begins
 pub record IsLonger (xs ys both : List Event) : Type 0 where
@@ -74,8 +77,10 @@ with_side x (Some d) = x ∷ d ∷ []
 
 -- The events of a release: a Release, and where it was the last, a Detach, which frees the slot and its side
 abbrev pub GivesUp : (List ℕ → List ℕ → Type 0) → Layout → List Event → List ℕ → ℕ → Bool → List Event → List ℕ → List ℕ → Type 0
-GivesUp fits k front places x last front' places' freed = (middle : List Event) × (between : List ℕ) × Adds fits k front places (Release x last) middle between
-    × MatchBool last ((found : Option ℕ) × Adds fits k middle between (Detach x found) front' places' × (freed ≡ with_side x found)) ((front' ≡ middle) × (places' ≡ between) × (freed ≡ []))
+GivesUp fits k front places x last front' places' freed = (middle : List Event) × (between : List ℕ)
+    × Adds fits k front places (Release x last) middle between
+    × MatchBool last ((found : Option ℕ) × Adds fits k middle between (Detach x found) front' places' × (freed ≡ with_side x found))
+    ((front' ≡ middle) × (places' ≡ between) × (freed ≡ []))
 
 -- a pass takes in what a reference r leaves: its events, its credit and the slots that it freed
 pub record Released (fits : List ℕ → List ℕ → Type 0) (p : PassSeen) (r : RefSeen) (last : Bool) (q : PassSeen) : Type 0 where
@@ -89,7 +94,12 @@ pub record Released (fits : List ℕ → List ℕ → Type 0) (p : PassSeen) (r 
 -- a pass takes in all that another has
 pub record Joined (p other q : PassSeen) : Type 0 where
   pub fronts : IsLonger p.front other.front q.front
-  pub pass_is : q ≡ record p { front = q.front; places = p.places ++ other.places; free = p.free ++ other.free; credits = p.credits + other.credits }
+  pub pass_is : q ≡ record p {
+    front = q.front;
+    places = p.places ++ other.places;
+    free = p.free ++ other.free;
+    credits = p.credits + other.credits;
+  }
 
 -- a pass is cut in two: the new one, `other`, has so many slots and credits, one of them its stake
 pub record Divided (p : PassSeen) (slots credits : ℕ) (q other : PassSeen) : Type 0 where
@@ -136,8 +146,10 @@ pub record Ends (fits : List ℕ → List ℕ → Type 0) (e : Ended) : Type 0 w
   pub idle_at_end : (x : ℕ) → x < e.slots → at (heap_after e.layout e.history) x ≡ idle
   pub each_once : AllOnce (length e.history) e.places
 
--- A second reference s is given beside r, which is r' then, and a credit of the pass goes to it. The event comes after all that the reference and the pass had seen
-pub record Retained (fits : List ℕ → List ℕ → Type 0) (r : RefSeen) (p : PassSeen) (r' : RefSeen) (q : PassSeen) (s : RefSeen) : Type 0 where
+-- A second reference s is given beside r, which is r' then, and a credit of the pass goes to it. The event comes after all that the
+-- reference and the pass had seen
+pub record Retained (fits : List ℕ → List ℕ → Type 0) (r : RefSeen) (p : PassSeen) (r' : RefSeen) (q : PassSeen) (s : RefSeen)
+    : Type 0 where
   pub seen : List Event
   pub fronts : IsLonger r.front p.front seen
   pub event : Adds fits r.heap.layout seen r.places (Retain r.slot) r'.front r'.places
@@ -159,12 +171,20 @@ abbrev pub offered_back : ℕ → Option ℕ → List ℕ
 offered_back d None = []
 offered_back d (Some e) = d ∷ []
 
--- A draft d is offered as the side of r's slot, where `found` was before. The event comes after all that the reference and the draft had seen, and the pass sees it
-pub record Offered (fits : List ℕ → List ℕ → Type 0) (r : RefSeen) (d : DraftSeen) (p : PassSeen) (found : Option ℕ) (r' : RefSeen) (q : PassSeen) : Type 0 where
+-- A draft d is offered as the side of r's slot, where `found` was before. The event comes after all that the reference and the draft
+-- had seen, and the pass sees it
+pub record Offered (fits : List ℕ → List ℕ → Type 0) (r : RefSeen) (d : DraftSeen) (p : PassSeen) (found : Option ℕ) (r' : RefSeen)
+    (q : PassSeen) : Type 0 where
   pub seen : List Event
   pub fronts : IsLonger r.front d.front seen
   pub event : Adds fits r.heap.layout seen (r.places ++ d.places) (Install r.slot d.slot d.written found) r'.front r'.places
-  pub reference_is : r' ≡ record r { front = r'.front; places = r'.places; bare = false; side = Some (offered_side d.slot found); side_words = offered_words (heap_after r.heap.layout r'.front) d.written found }
+  pub reference_is : r' ≡ record r {
+    front = r'.front;
+    places = r'.places;
+    bare = false;
+    side = Some (offered_side d.slot found);
+    side_words = offered_words (heap_after r.heap.layout r'.front) d.written found;
+  }
   pub passes : IsLonger p.front r'.front q.front
   pub pass_is : q ≡ record p { front = q.front; free = p.free ++ offered_back d.slot found; credits = p.credits + 1 }
 
@@ -173,8 +193,10 @@ abbrev pub side_slots : Option ℕ → List ℕ
 side_slots None = []
 side_slots (Some d) = d ∷ []
 
--- A sole reference's slot loses its side, which `found` was. The event comes after all that the pass and the reference had seen, and its place is with the pass, as the reference's are
-pub record TakenAway (fits : List ℕ → List ℕ → Type 0) (r : RefSeen) (p : PassSeen) (found : Option ℕ) (r' : RefSeen) (q : PassSeen) : Type 0 where
+-- A sole reference's slot loses its side, which `found` was. The event comes after all that the pass and the reference had seen, and its
+-- place is with the pass, as the reference's are
+pub record TakenAway (fits : List ℕ → List ℕ → Type 0) (r : RefSeen) (p : PassSeen) (found : Option ℕ) (r' : RefSeen) (q : PassSeen)
+    : Type 0 where
   pub seen : List Event
   pub fronts : IsLonger p.front r.front seen
   pub event : Adds fits r.heap.layout seen (p.places ++ r.places) (Detach r.slot found) q.front q.places

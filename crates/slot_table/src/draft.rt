@@ -1,14 +1,14 @@
 //! A free slot that is being filled.
-ghost use Rattle.std.specs.Prelude.{◌≡◌, ℕ, ◌+◌, ◌<◌, ◌++◌, [], ◌∷◌, length, true, None};
+ghost use Rattle.std.specs.Prelude.{◌≡◌, ◌+◌, ◌<◌, ◌++◌, [], ◌∷◌, length, true, None};
 ghost use Rattle.slot_model.specs.declared.event.Event.TheVariants.{Publish};
 ghost use Rattle.slot_table.specs.Owners.{Adds, Joined, dropped_draft};
 
-use crate::addresses::{data_word, ref_word};
+use crate::addresses::{count_place, data_place};
 use crate::heap::Heap;
 use crate::pass::Pass;
 use crate::plays::{Drafting, Publishing};
 use crate::reference::Ref;
-use crate::view::View;
+use crate::view::SeatView;
 use atomic_table::Seat;
 use slot_model::Attach;
 use std::marker::Model;
@@ -19,7 +19,7 @@ use std::marker::Model;
 #[derive(Drop)]
 pub struct Draft<'h, A: Attach> {
     pub(crate) heap: &'h Heap<A>,
-    pub(crate) seat: Seat<u64, View>,
+    pub(crate) seat: Seat<u64, SeatView>,
     pub(crate) slot: u32,
     pub(crate) count: u32,
 }
@@ -49,7 +49,7 @@ impl<'h, A: Attach> Draft<'h, A> {
         ensures { self.new ≡ record self.old { written = self.old.written ++ word ∷ [] } }
     {
         let heap = self.heap;
-        let place = data_word(&heap.layout, self.slot, self.count);
+        let place = data_place(&heap.layout, self.slot, self.count);
         heap.table
             .shared
             .store::<Drafting>(&mut self.seat, place, word);
@@ -70,7 +70,7 @@ impl<'h, A: Attach> Draft<'h, A> {
             slot,
             count: _,
         } = self;
-        let place = ref_word(&heap.layout, slot);
+        let place = count_place(&heap.layout, slot);
         heap.table
             .shared
             .store::<Publishing<A>>(&mut seat, place, 1);

@@ -1,11 +1,10 @@
 //! The heap: its table, the rule over it, and its end.
-ghost use Rattle.std.specs.Prelude.{◌≡◌, ℕ, ◌+◌, ◌<◌, ◌≤◌, List, length};
-ghost use Rattle.slot_table.specs.Addresses.{LayoutOk, size_of};
-ghost use Rattle.slot_table.specs.Seats.{AllOnce};
+ghost use Rattle.std.specs.Prelude.{◌≡◌, ◌<◌};
+ghost use Rattle.slot_table.specs.Numbers.{AllOnce};
 ghost use Rattle.slot_table.specs.Owners.{Ends};
 
 use crate::pass::Pass;
-use crate::view::View;
+use crate::view::SeatView;
 use atomic_table::{Seat, Table, TableRule};
 use slot_model::{Attach, Layout};
 use std::alloc::Global;
@@ -25,9 +24,9 @@ pub struct HeapRule<A> {
     attach: PhantomData<A>,
 }
 
-impl<A: Attach> TableRule<u64, View, Key> for HeapRule<A> {
+impl<A: Attach> TableRule<u64, SeatView, Key> for HeapRule<A> {
     ghost use Rattle.slot_table.specs.Holdings.{Holds};
-    ghost use Rattle.slot_table.specs.Steps.{first_view};
+    ghost use Rattle.slot_table.specs.PassSteps.{first_view};
 
     ghost holds = { λ k. Holds A.fits k.layout k.literals.value };
 
@@ -39,7 +38,7 @@ impl<A: Attach> TableRule<u64, View, Key> for HeapRule<A> {
 /// Contracts see which heap it is, its layout and the UTF-8 bytes of its literals.
 #[derive(Drop)]
 pub struct Heap<A: Attach> {
-    pub(crate) table: Table<u64, View, Key, HeapRule<A>, Global>,
+    pub(crate) table: Table<u64, SeatView, Key, HeapRule<A>, Global>,
     pub(crate) layout: Layout,
     pub(crate) literals: u32,
     pub(crate) starts: Vec<usize>,
@@ -59,7 +58,7 @@ impl<A: Attach> Model for Heap<A> {
 /// The right to the whole heap, while no pass is out. It carries no lifetime.
 #[derive(Drop)]
 pub struct Whole<A: Attach> {
-    pub(crate) seat: Seat<u64, View>,
+    pub(crate) seat: Seat<u64, SeatView>,
     pub(crate) free: Vec<u32>,
     pub(crate) attach: PhantomData<A>,
 }
@@ -81,14 +80,14 @@ impl<A: Attach> Model for Whole<A> {
 pub struct Closed<A: Attach> {
     slots: u32,
     idle: u32,
-    seat: Seat<u64, View>,
+    seat: Seat<u64, SeatView>,
     attach: PhantomData<A>,
 }
 
 impl<A: Attach> Model for Closed<A> {
     ghost use Rattle.std.specs.Prelude.{◌≡◌};
     ghost use Rattle.slot_table.specs.Owners.{Ended};
-    ghost use Rattle.slot_table.specs.Steps.{IsAll};
+    ghost use Rattle.slot_table.specs.PassSteps.{IsAll};
     ghost use Rattle.slot_table.specs.Ties.{ended_seen};
 
     ghost Value = { Ended };

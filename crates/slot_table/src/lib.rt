@@ -27,9 +27,9 @@
 //! | Retain, Release | 1 is added to the count (`Retaining`), or taken from it (`Releasing`) |
 //! | Sole | a load of the count (`Asking`) |
 //! | Write | a store into a data word of a bare reference's slot (`Writing`) |
-//! | Look | a load of the crumb word (`Looking`) |
-//! | Install | a compare and exchange of the crumb word from 0 (`Installing`) |
-//! | Detach | the crumb word is exchanged for 0, by a closing seat (`Detaching`) or a sole reference (`Clearing`) |
+//! | Look | a load of the word that shows the side (`Looking`) |
+//! | Install | a compare and exchange of that word from 0 (`Installing`) |
+//! | Detach | that word is exchanged for 0, by a closing seat (`GivingBack`) or a sole reference (`Detaching`) |
 //!
 //! No call waits for another thread. Start at `pass.rt`.
 #![tactic(auto)]
@@ -38,8 +38,8 @@ mod addresses;
 mod draft;
 mod heap;
 pub mod laws;
+pub mod limits;
 mod literal;
-mod literals;
 mod numbers;
 mod opening;
 mod pass;
@@ -55,7 +55,7 @@ pub use opening::OpenError;
 pub use pass::{Missing, Pass};
 pub use reference::Ref;
 pub use side::Installed;
-pub use view::{Role, View};
+pub use view::{Role, SeatView};
 
 #[cfg(test)]
 mod literal_tests;

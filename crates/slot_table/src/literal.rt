@@ -1,12 +1,12 @@
 //! One of the heap's literals, as a thread reads it.
-ghost use Rattle.std.specs.Prelude.{◌≡◌, ℕ, ◌<◌, get_or, length};
-ghost use Rattle.slot_table.specs.Literals.{row_words};
+ghost use Rattle.std.specs.Prelude.{◌≡◌, ◌<◌, ◌≤◌, [], get_or, length, IsUtf8};
+ghost use Rattle.literal_rows.specs.Rows.{row_words};
+ghost use Rattle.slot_table.specs.Opening.{most_bytes};
 
-use crate::addresses::table_size;
 use crate::heap::Heap;
 use crate::pass::Pass;
 use crate::plays::{Literally, Reciting};
-use crate::view::View;
+use crate::view::SeatView;
 use atomic_table::Seat;
 use slot_model::Attach;
 use std::marker::Model;
@@ -17,7 +17,7 @@ use std::marker::Model;
 #[derive(Drop)]
 pub struct Literal<'h, A: Attach> {
     heap: &'h Heap<A>,
-    seat: Seat<u64, View>,
+    seat: Seat<u64, SeatView>,
     number: u32,
     start: usize,
 }
@@ -36,11 +36,13 @@ impl<'h, A: Attach> Model for Literal<'h, A> {
 impl<'h, A: Attach> Pass<'h, A> {
     /// Literal `number` of the heap, counted from 0 and below their number.
     ///
-    /// One load of word 0. No event, no credit and no memory.
+    /// Its words are those of a text that fits a slot. One load of word 0. No event, no credit and no memory.
     pub fn literal(&mut self, number: u32) -> Literal<'h, A>
         requires { number < length self.old.heap.literals }
         ensures kept { self.new ≡ self.old }
         ensures literal { result ≡ record { heap = self.old.heap; front = self.old.front; words = row_words self.old.heap.literals number } }
+        ensures text { IsUtf8 (get_or self.old.heap.literals number []) }
+        ensures fits { length (get_or self.old.heap.literals number []) ≤ most_bytes self.old.heap.layout }
     {
         let heap = self.heap;
         let start = heap.starts[number as usize];
@@ -62,9 +64,9 @@ impl<'h, A: Attach> Literal<'h, A> {
         ensures word { result ≡ get_or self.old.words k 0 }
     {
         let heap = self.heap;
-        let before = table_size(&heap.layout);
-        let place = before + self.start + k as usize;
-        heap.table.shared.load::<Reciting>(&mut self.seat, place)
+        let shared = &heap.table.shared;
+        let place = self.start + k as usize;
+        shared.load::<Reciting>(&mut self.seat, place)
     }
 
     /// The same literal once more. One load of word 0, no memory.

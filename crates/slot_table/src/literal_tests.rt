@@ -1,6 +1,6 @@
 //! The heap's literals, read by one owner and by two in threads: that the calls answer, with words worked out by hand.
-ghost use Rattle.std.specs.Prelude.{◌≡◌, ◌<◌, [], length, IfSome};
-ghost use Rattle.slot_table.specs.Literals.{row_words};
+ghost use Rattle.std.specs.Prelude.{◌≡◌, ◌<◌, length, IfSome};
+ghost use Rattle.literal_rows.specs.Rows.{row_words};
 
 use crate::tests::{Anything, closed, ended, layout};
 use crate::{Heap, Literal, Pass, Whole};

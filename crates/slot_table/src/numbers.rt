@@ -1,6 +1,6 @@
 //! Lists of slot numbers.
-ghost use Rattle.std.specs.Prelude.{◌≡◌, ℕ, ◌+◌, ◌-◌, ◌≤◌, ◌++◌, length, take, drop, vec_capacity, IfOk, IfErr};
-ghost use Rattle.slot_table.specs.Seats.{down_from};
+ghost use Rattle.std.specs.Prelude.{◌≡◌, ◌+◌, ◌-◌, ◌≤◌, ◌++◌, length, take, drop, vec_capacity, IfOk, IfErr};
+ghost use Rattle.slot_table.specs.Numbers.{down_from};
 
 use std::alloc::{AllocError, Global};
 

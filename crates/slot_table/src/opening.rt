@@ -1,16 +1,21 @@
 //! How a heap is opened: what it is refused for, and the words that its table begins with.
-ghost use Rattle.std.specs.Prelude.{◌≡◌, ℕ, ◌+◌, ◌≤◌, ◌++◌, ◌↔◌, length, vec_capacity, IfOk, Err};
-ghost use Rattle.slot_table.specs.Addresses.{LayoutOk, size_of};
-ghost use Rattle.slot_table.specs.Literals.{IsAccepted, AllFit, IsFirstTooLong, zeros};
-ghost use Rattle.slot_table.specs.Seats.{down_from};
+ghost use Rattle.std.specs.Prelude.{◌≡◌, ℕ, ◌↔◌, length, IfOk, IsTrue, Err};
+ghost use Rattle.literal_rows.specs.Rows.{AllFit, IsFirstTooLong};
+ghost use Rattle.slot_table.specs.Opening as limits;
+ghost use Rattle.slot_table.specs.Opening.{LayoutOk, IsAccepted};
+ghost use Rattle.slot_table.specs.Numbers.{down_from};
 ghost use Rattle.slot_table.specs.Owners.{opened_pass};
 ghost use Rattle.slot_table.specs.declared.opening.OpenError.TheVariants.{BadLayout, LiteralTooLong};
 
 use crate::addresses::table_size;
 use crate::heap::{Heap, Key, Whole};
-use crate::literals::{Rows, first_too_long, is_accepted, literal_rows};
+use crate::limits::{
+    LEAST_CAPACITY_WORDS, LEAST_CREDITS, MOST_CAPACITY_WORDS, MOST_CREDITS, MOST_LITERALS,
+    MOST_SLOTS, MOST_WORDS,
+};
 use crate::numbers::all_slots;
 use atomic_table::Table;
+use literal_rows::{Rows, first_too_long, rows_after};
 use slot_model::{Attach, Layout};
 use std::alloc::{AllocError, Global};
 use std::marker::PhantomData;
@@ -28,25 +33,25 @@ pub enum OpenError {
     OutOfMemory,
 }
 
-fn append_words(words: &mut Vec<u64>, more: &[u64])
-    requires { length words.old.items + length more.now ≤ vec_capacity words.old }
-    ensures { words.new.items ≡ words.old.items ++ more.now }
+// Whether a layout keeps the limits, with so many literals.
+fn is_accepted(layout: &Layout, literals: usize) -> bool
+    ensures { IsTrue result ↔ IsAccepted layout.now literals }
 {
-    for word in more {
-        words.push_reserved(*word);
-    }
+    LEAST_CAPACITY_WORDS <= layout.capacity_words
+        && layout.capacity_words <= MOST_CAPACITY_WORDS
+        && layout.slots <= MOST_SLOTS
+        && LEAST_CREDITS <= layout.credits
+        && layout.credits <= MOST_CREDITS
+        && layout.slots as u64 * layout.capacity_words as u64 <= MOST_WORDS
+        && literals <= MOST_LITERALS
 }
 
-// Word 0, the words of the slots, all 0, and the rows of the literals.
-fn first_words(alloc: Global, layout: &Layout, rows: &Vec<u64>) -> Result<Vec<u64>, AllocError>
+// The most bytes of a literal.
+fn most_bytes(layout: &Layout) -> usize
     requires { LayoutOk layout.now }
-    ensures { IfOk result (λ v. v.items ≡ zeros (size_of layout.now) ++ rows.now.items) }
+    ensures { result ≡ limits.most_bytes layout.now }
 {
-    let size = table_size(layout);
-    let mut words = Vec::with_capacity(alloc, size + rows.len())?;
-    words.resize(size, 0)?;
-    append_words(&mut words, rows.as_slice());
-    Ok(words)
+    8 * (layout.capacity_words as usize - 1)
 }
 
 fn made<A: Attach>(
@@ -54,15 +59,11 @@ fn made<A: Attach>(
     layout: &Layout,
     literals: &TextList,
 ) -> Result<(Heap<A>, Whole<A>), AllocError>
-    requires { IsAccepted layout.now (length literals.now) × AllFit layout.now literals.now }
+    requires { IsAccepted layout.now (length literals.now) × AllFit (limits.most_bytes layout.now) literals.now }
     ensures { IfOk result (λ t. (t.0.layout ≡ layout.now) × (t.0.literals ≡ literals.now) × (t.1 ≡ opened_pass t.0 (down_from layout.now.slots))) }
 {
     let free = all_slots(alloc, layout.slots)?;
-    let Rows {
-        words: rows,
-        starts,
-    } = literal_rows(alloc, layout, literals)?;
-    let words = first_words(alloc, layout, &rows)?;
+    let Rows { words, starts } = rows_after(alloc, table_size(layout), literals)?;
     let key = Key {
         layout: *layout,
         literals: Snapshot::of(literals),
@@ -94,7 +95,7 @@ impl<A: Attach> Heap<A> {
         literals: &TextList,
     ) -> Result<(Heap<A>, Whole<A>), OpenError>
         ensures bad_layout { (result ≡ Err BadLayout) ↔ (IsAccepted layout.now (length literals.now) → ⊥) }
-        ensures too_long { (n : ℕ) → ((result ≡ Err (LiteralTooLong n)) ↔ (IsAccepted layout.now (length literals.now) × IsFirstTooLong layout.now literals.now n)) }
+        ensures too_long { (n : ℕ) → ((result ≡ Err (LiteralTooLong n)) ↔ (IsAccepted layout.now (length literals.now) × IsFirstTooLong (limits.most_bytes layout.now) literals.now n)) }
         ensures layout { IfOk result (λ t. t.0.layout ≡ layout.now) }
         ensures literals { IfOk result (λ t. t.0.literals ≡ literals.now) }
         ensures whole { IfOk result (λ t. t.1 ≡ opened_pass t.0 (down_from layout.now.slots)) }
@@ -102,7 +103,7 @@ impl<A: Attach> Heap<A> {
         if !is_accepted(layout, literals.len()) {
             return Err(OpenError::BadLayout);
         }
-        if let Some(number) = first_too_long(layout, literals) {
+        if let Some(number) = first_too_long(literals, most_bytes(layout)) {
             return Err(OpenError::LiteralTooLong { number });
         }
         match made(alloc, layout, literals) {

@@ -1,6 +1,6 @@
 //! A thread's right to work on a heap.
-ghost use Rattle.std.specs.Prelude.{◌≡◌, ℕ, ◌+◌, ◌<◌, ◌≤◌, ◌⊎◌, ◌↔◌, length, IsErr, IfOk, IfErr, IfSome, IfNone, IsNone, vec_capacity};
-ghost use Rattle.slot_table.specs.Holdings.{Below};
+ghost use Rattle.std.specs.Prelude.{◌≡◌, ◌+◌, ◌<◌, ◌≤◌, ◌⊎◌, ◌↔◌, length, IsErr, IfOk, IfErr, IfSome, IfNone, IsNone, vec_capacity};
+ghost use Rattle.slot_table.specs.Numbers.{Below};
 ghost use Rattle.slot_table.specs.Ties.{IsTied, IsLoose, loose_seen};
 ghost use Rattle.slot_table.specs.Owners.{Joined, Divided, Drafted as DraftTaken, Met as MeetsTo, IsEntire};
 
@@ -9,7 +9,7 @@ use crate::heap::{Heap, Whole};
 use crate::numbers::{append_all, hand_over};
 use crate::plays::{Concluding, Cut, Drafted, Merged, Met, Parted, Planning, Telling};
 use crate::reference::Ref;
-use crate::view::View;
+use crate::view::SeatView;
 use atomic_table::Seat;
 use slot_model::Attach;
 use std::alloc::Global;
@@ -22,17 +22,15 @@ use text_spec::OutOfMemory;
 #[derive(Drop)]
 pub struct Pass<'h, A: Attach> {
     pub(crate) heap: &'h Heap<A>,
-    pub(crate) seat: Seat<u64, View>,
+    pub(crate) seat: Seat<u64, SeatView>,
     pub(crate) free: Vec<u32>,
     pub(crate) credits: u32,
 }
 
 impl<'h, A: Attach> Model for Pass<'h, A> {
     ghost use Rattle.std.specs.Prelude.{vec_capacity};
-    ghost use Rattle.slot_table.specs.Holdings.{Below};
-    ghost use Rattle.slot_table.specs.Ties.{IsTied, IsLoose, loose_seen};
+    ghost use Rattle.slot_table.specs.Ties.{IsTied, IsPass, pass_seen};
     ghost use Rattle.slot_table.specs.Owners.{PassSeen};
-    ghost use Rattle.slot_table.specs.Ties.{IsPass, IsTied, pass_seen};
 
     ghost Value = { PassSeen };
 
@@ -98,7 +96,7 @@ impl<'h, A: Attach> Pass<'h, A> {
     }
 
     // Takes in what a share or a draft has.
-    pub(crate) fn absorb(&mut self, seat: Seat<u64, View>, free: &[u32], credits: u32)
+    pub(crate) fn absorb(&mut self, seat: Seat<u64, SeatView>, free: &[u32], credits: u32)
         requires tied { IsTied self.old.heap seat }
         requires loose { IsLoose seat.me.0 free.now credits }
         ensures { Joined self.old (loose_seen self.old.heap seat.me.0 free.now) self.new }

@@ -1,18 +1,18 @@
 //! One holder of a published slot.
-ghost use Rattle.std.specs.Prelude.{◌≡◌, ℕ, ◌+◌, ◌<◌, ◌≤◌, ◌↔◌, [], get_or, length, Bool, true, IsTrue, IsNone, IsSome, IfNone, IfSome};
+ghost use Rattle.std.specs.Prelude.{◌≡◌, ◌<◌, ◌≤◌, ◌↔◌, [], get_or, length, true, IsTrue, IsNone, IsSome, IfNone, IfSome};
 ghost use Rattle.slot_model.specs.declared.event.Event.TheVariants.{Sole, Write};
 ghost use Rattle.slot_model.specs.History.{put};
 ghost use Rattle.slot_table.specs.Owners.{Adds, Released, Retained};
-ghost use Rattle.slot_table.specs.Steps.{LeftBy};
+ghost use Rattle.slot_table.specs.ReferenceSteps.{LeftBy};
 ghost use Rattle.slot_table.specs.Ties.{IsTied, IsRef};
 
-use crate::addresses::{crumb_word, data_word, ref_word};
+use crate::addresses::{count_place, data_place, side_place};
 use crate::heap::Heap;
 use crate::pass::Pass;
 use crate::plays::{
-    Asking, Detaching, Halved, OneCredit, Paid, Reading, Releasing, Retaining, Writing,
+    Asking, GivingBack, Halved, OneCredit, Paid, Reading, Releasing, Retaining, Writing,
 };
-use crate::view::View;
+use crate::view::SeatView;
 use atomic_table::Seat;
 use slot_model::Attach;
 use std::marker::Model;
@@ -24,7 +24,7 @@ use std::marker::Model;
 #[derive(Drop)]
 pub struct Ref<'h, A: Attach> {
     pub(crate) heap: &'h Heap<A>,
-    pub(crate) seat: Seat<u64, View>,
+    pub(crate) seat: Seat<u64, SeatView>,
     pub(crate) slot: u32,
     pub(crate) sole: bool,
     pub(crate) bare: bool,
@@ -61,6 +61,7 @@ impl<'h, A: Attach> Ref<'h, A> {
     pub fn bare(&self) -> bool
         ensures bare { result ≡ self.now.bare }
         ensures sole { IsTrue result → (self.now.sole ≡ true) }
+        ensures alone { IsTrue result → (self.now.side ≡ None) }
     {
         self.bare
     }
@@ -80,7 +81,7 @@ impl<'h, A: Attach> Ref<'h, A> {
         ensures word { result ≡ get_or self.old.known k 0 }
     {
         let heap = self.heap;
-        let place = data_word(&heap.layout, self.slot, k);
+        let place = data_place(&heap.layout, self.slot, k);
         heap.table.shared.load::<Reading>(&mut self.seat, place)
     }
 
@@ -93,7 +94,7 @@ impl<'h, A: Attach> Ref<'h, A> {
         ensures kept { self.new ≡ record self.old { front = self.new.front; places = self.new.places; sole = result } }
     {
         let heap = self.heap;
-        let place = ref_word(&heap.layout, self.slot);
+        let place = count_place(&heap.layout, self.slot);
         let found = heap.table.shared.load::<Asking<A>>(&mut self.seat, place);
         self.sole = found == 1;
         self.sole
@@ -109,7 +110,7 @@ impl<'h, A: Attach> Ref<'h, A> {
         ensures kept { self.new ≡ record self.old { front = self.new.front; places = self.new.places; known = put self.old.known k word } }
     {
         let heap = self.heap;
-        let place = data_word(&heap.layout, self.slot, k);
+        let place = data_place(&heap.layout, self.slot, k);
         heap.table
             .shared
             .store::<Writing<A>>(&mut self.seat, place, word);
@@ -133,7 +134,7 @@ impl<'h, A: Attach> Ref<'h, A> {
         let credit = shared.split_seat::<OneCredit>(&mut pass.seat);
         pass.credits -= 1;
         shared.join_seat::<Paid>(&mut self.seat, credit);
-        let place = ref_word(&heap.layout, self.slot);
+        let place = count_place(&heap.layout, self.slot);
         shared.fetch_add::<Retaining<A>>(&mut self.seat, place, 1);
         let seat = shared.split_seat::<Halved>(&mut self.seat);
         self.sole = false;
@@ -174,16 +175,16 @@ impl<'h, A: Attach> Ref<'h, A> {
                 pass.absorb(seat, &[slot], 1);
                 true
             }
-            Some(crumb) => {
-                pass.absorb(seat, &[slot, (crumb - 1) as u32], 1);
+            Some(shown) => {
+                pass.absorb(seat, &[slot, (shown - 1) as u32], 1);
                 true
             }
         }
     }
 }
 
-// The steps that give a reference's seat up. Where it was the last, the answer is the crumb word found.
-fn give_up<A: Attach>(heap: &Heap<A>, seat: &mut Seat<u64, View>, slot: u32) -> Option<u64>
+// The steps that give a reference's seat up. Where it was the last, the answer is the word that showed the side.
+fn give_up<A: Attach>(heap: &Heap<A>, seat: &mut Seat<u64, SeatView>, slot: u32) -> Option<u64>
     requires tied { IsTied heap.now seat.old }
     requires is { (sole : _) × (bare : _) × (side : _) × IsRef A.fits seat.old.me.0 slot sole bare side }
     ensures same { (seat.new.table_id ≡ seat.old.table_id) × (seat.new.me.1 ≡ []) }
@@ -191,11 +192,11 @@ fn give_up<A: Attach>(heap: &Heap<A>, seat: &mut Seat<u64, View>, slot: u32) -> 
     ensures few { IfSome result (λ n. n ≤ heap.now.layout.slots) }
     ensures known { (seat.old.me.0.sole ≡ true) → IsSome result }
 {
-    let place = ref_word(&heap.layout, slot);
-    let crumb = crumb_word(&heap.layout, slot);
+    let place = count_place(&heap.layout, slot);
+    let side = side_place(&heap.layout, slot);
     let found = heap.table.shared.fetch_sub::<Releasing<A>>(seat, place, 1);
     if found == 1 {
-        Some(heap.table.shared.swap::<Detaching<A>>(seat, crumb, 0))
+        Some(heap.table.shared.swap::<GivingBack<A>>(seat, side, 0))
     } else {
         None
     }

@@ -1,6 +1,5 @@
 //! Two owners of one slot, in threads and alone: what no clause says of them together.
-ghost use Rattle.std.specs.Prelude.{◌≡◌, ◌+◌, ◌<◌, ◌≤◌, [], ◌∷◌, true, length, None, IfSome};
-ghost use Rattle.slot_table.specs.Owners.{IsEntire};
+ghost use Rattle.std.specs.Prelude.{◌≡◌, ◌<◌, true, length, None, IfSome};
 
 use crate::tests::{Anything, closed, ended, layout, opened, share_of, stored};
 use crate::{Pass, Ref, Whole};

@@ -1,17 +1,17 @@
 //! A slot's side: which it is, what it holds, how one is installed and taken away.
-ghost use Rattle.std.specs.Prelude.{◌≡◌, ℕ, ◌<◌, ◌≤◌, get_or, length, Option, Some, true, IsNone, IsSome, IfSome};
+ghost use Rattle.std.specs.Prelude.{◌≡◌, ◌<◌, get_or, length, Option, Some, true, IsNone, IsSome, IfSome};
 ghost use Rattle.slot_model.specs.declared.event.Event.TheVariants.{Look};
 ghost use Rattle.slot_model.specs.History.{heap_after};
 ghost use Rattle.slot_table.specs.Owners.{Adds, Offered, TakenAway, side_words_in};
 ghost use Rattle.slot_table.specs.Outcomes.{found_by};
 ghost use Rattle.slot_table.specs.declared.side.Installed.TheVariants.{Won, Lost};
 
-use crate::addresses::{crumb_word, data_word, shown_side};
+use crate::addresses::{data_place, found_in, side_place};
 use crate::draft::Draft;
 use crate::numbers::append_all;
 use crate::pass::Pass;
 use crate::plays::{
-    Armed, Change, Clearing, Installing, Literally, Looking, Met, Parted, SideReading,
+    Armed, Change, Detaching, Installing, Literally, Looking, Met, Parted, SideReading,
 };
 use crate::reference::Ref;
 use slot_model::Attach;
@@ -39,9 +39,9 @@ impl<'h, A: Attach> Ref<'h, A> {
         ensures kept { self.new ≡ record self.old { front = self.new.front; places = self.new.places; side = result; side_words = side_words_in (heap_after self.old.heap.layout self.new.front) result } }
     {
         let heap = self.heap;
-        let place = crumb_word(&heap.layout, self.slot);
+        let place = side_place(&heap.layout, self.slot);
         let found = heap.table.shared.load::<Looking<A>>(&mut self.seat, place);
-        let side = shown_side(found);
+        let side = found_in(found);
         self.side = side;
         side
     }
@@ -59,7 +59,7 @@ impl<'h, A: Attach> Ref<'h, A> {
         let Some(slot) = self.side else {
             unreachable!()
         };
-        let place = data_word(&heap.layout, slot, j);
+        let place = data_place(&heap.layout, slot, j);
         heap.table.shared.load::<SideReading>(&mut self.seat, place)
     }
 
@@ -87,8 +87,8 @@ impl<'h, A: Attach> Ref<'h, A> {
         let heap = self.heap;
         let shared = &heap.table.shared;
         shared.join_seat::<Armed>(&mut self.seat, seat);
-        let place = crumb_word(&heap.layout, self.slot);
-        let crumb = shared.compare_exchange::<Installing<A>>(
+        let place = side_place(&heap.layout, self.slot);
+        let found = shared.compare_exchange::<Installing<A>>(
             &mut self.seat,
             place,
             0,
@@ -96,7 +96,7 @@ impl<'h, A: Attach> Ref<'h, A> {
         );
         let change = shared.split_seat::<Change>(&mut self.seat);
         self.bare = false;
-        match shown_side(crumb) {
+        match found_in(found) {
             None => {
                 self.side = Some(slot);
                 pass.absorb(change, &[], 1);
@@ -128,13 +128,13 @@ impl<'h, A: Attach> Ref<'h, A> {
         let spare = shared.split_seat::<Literally>(&mut pass.seat);
         let own = std::mem::replace(&mut self.seat, spare);
         shared.join_seat::<Met>(&mut pass.seat, own);
-        let place = crumb_word(&heap.layout, self.slot);
-        let crumb = shared.swap::<Clearing<A>>(&mut pass.seat, place, 0);
+        let place = side_place(&heap.layout, self.slot);
+        let found = shared.swap::<Detaching<A>>(&mut pass.seat, place, 0);
         let back = shared.split_seat::<Parted>(&mut pass.seat);
         std::mem::replace(&mut self.seat, back);
         self.bare = true;
         self.side = None;
-        let Some(slot) = shown_side(crumb) else {
+        let Some(slot) = found_in(found) else {
             return None;
         };
         append_all(&mut pass.free, &[slot]);

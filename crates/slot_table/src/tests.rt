@@ -4,7 +4,7 @@
 ghost use Rattle.std.specs.Prelude.{◌≡◌, ◌<◌, [], ◌∷◌, true, None, IfSome};
 ghost use Rattle.slot_model.specs.declared.event.Event.TheVariants.{Publish, Release, Detach};
 ghost use Rattle.slot_table.specs.Owners.{Adds, IsEntire, opened_pass};
-ghost use Rattle.slot_table.specs.Seats.{down_from};
+ghost use Rattle.slot_table.specs.Numbers.{down_from};
 
 use crate::{Heap, Missing, OpenError, Pass, Ref, Whole};
 use slot_model::{Attach, Layout};

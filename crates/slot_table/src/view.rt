@@ -15,7 +15,7 @@ pub enum Role {
 
 /// What a seat at the heap's table knows and holds. No value of this type is made: it stands in proofs alone, where
 /// an array is a list of any length.
-pub struct View {
+pub struct SeatView {
     pub role: Role,
     pub layout: Layout,
     /// The texts of the heap's literals, each as its UTF-8 bytes.

@@ -1,5 +1,5 @@
 use Rattle.std.proofs.Common.{◌≡◌, ◌+◌, ◌≤◌, ◌++◌, length, vec_capacity}
-use Rattle.slot_table.specs.Seats.{down_from}
+use Rattle.slot_table.specs.Numbers.{down_from}
 use Rattle.slot_table.proofs.numbers.all_slots.Given as goal
 
 abbrev pub invariant-loop-left : goal.invariant-loop-left

@@ -1,6 +1,6 @@
 use Rattle.std.proofs.Common.{rules, ◌≡◌, ◌<◌, [], ◌∷◌, length, vec_capacity, refl, ap, ◌∙◌, subst, arith, length-append}
-use Rattle.slot_table.specs.declared.view.View.{View}
-use Rattle.slot_table.specs.Steps.{without_draft, drafted}
+use Rattle.slot_table.specs.declared.view.SeatView.{SeatView}
+use Rattle.slot_table.specs.PassSteps.{without_draft, drafted}
 use Rattle.slot_table.specs.Ties.{IsPass}
 use Rattle.slot_table.proofs.Sharing.{drafts_allowed}
 use Rattle.slot_table.proofs.Tying.{tied_on, is_pass_by, is_draft_by, pass_without_draft, draft_from}
@@ -17,7 +17,7 @@ pub invariant_of-result : goal.invariant_of-result
 invariant_of-result g c = let i = c.self.invariant in let e = c.split_seat-seat.ensures in
     let new : c.split_seat-seat.result.me.0 ≡ drafted c.self.inside.seat.me.0 = ap (λ m. m.0) e.4 in
     let was = subst (λ fs. IsPass c.self.inside.seat.me.0 fs (vec_capacity c.self.inside.free) c.self.inside.credits) c.in_ok-slot.ensures.items i.1 in (
-      tied_on _ c.self.inside.seat _ e.3 (ap (λ m. m.1) e.4) (ap (λ (v : View). v.layout) new) (ap (λ (v : View). v.literals) new) i.0,
+      tied_on _ c.self.inside.seat _ e.3 (ap (λ m. m.1) e.4) (ap (λ (v : SeatView). v.layout) new) (ap (λ (v : SeatView). v.literals) new) i.0,
       is_draft_by _ _ _ _ new (draft_from c.self.inside.seat.me.0 c.pop.new.self.items c.in_ok-slot.slot _ _ was),
     )
 
@@ -26,7 +26,7 @@ invariant_of-self-2 g c = let i = c.self.invariant in let e = c.split_seat-seat.
     let old : c.split_seat-seat.new.seat.me.0 ≡ without_draft c.self.inside.seat.me.0 = ap (λ m. m.0) e.2 in
     let was = subst (λ fs. IsPass c.self.inside.seat.me.0 fs (vec_capacity c.self.inside.free) c.self.inside.credits) c.in_ok-slot.ensures.items i.1 in
     let stake = i.1.stake in let not_one = c.if-self-eq1.false in (
-      tied_on _ c.self.inside.seat _ e.0 (ap (λ m. m.1) e.2 ∙ i.0.empty) (ap (λ (v : View). v.layout) old) (ap (λ (v : View). v.literals) old) i.0,
+      tied_on _ c.self.inside.seat _ e.0 (ap (λ m. m.1) e.2 ∙ i.0.empty) (ap (λ (v : SeatView). v.layout) old) (ap (λ (v : SeatView). v.literals) old) i.0,
       is_pass_by _ _ _ _ _ _ _ old refl c.in_ok-slot.ensures.capacity (pass_without_draft c.self.inside.seat.me.0 c.pop.new.self.items c.in_ok-slot.slot _ _ (omega arith) was),
     )
 

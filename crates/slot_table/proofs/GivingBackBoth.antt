@@ -11,18 +11,18 @@ use Rattle.slot_model.specs.declared.layout.Layout.{Layout}
 use Rattle.slot_model.specs.History.{Heap, idle, closing, side_of, at, detached, count_of, words_of, side_in, idle_in, closing_in, heap_after, Paired}
 use Rattle.slot_model.proofs.Runs.{length-heap_after, at-set, at-set_else}
 use Rattle.slot_model.proofs.Sides.{paired_after, side_below}
-use Rattle.slot_table.specs.declared.view.View.{View}
+use Rattle.slot_table.specs.declared.view.SeatView.{SeatView}
 use Rattle.slot_table.specs.declared.view.Role.TheVariants.{Share, Closing}
-use Rattle.slot_table.specs.Addresses.{ref_at, crumb_at, crumb_of}
-use Rattle.slot_table.specs.Seats.{total, weight_on, closing_on, free_on}
+use Rattle.slot_table.specs.Addresses.{count_place, side_place, side_word, found_in}
+use Rattle.slot_table.specs.Numbers.{total}
+use Rattle.slot_table.specs.Seats.{weight_on, closing_on, free_on}
 use Rattle.slot_table.specs.Holdings.{SlotOk, ReferenceOk, Holds}
 use Rattle.slot_table.proofs.Sums.{total_set, total_at}
-use Rattle.slot_table.proofs.Rows.{apart, within, data_not_crumb}
+use Rattle.slot_table.proofs.Rows.{apart, within, data_not_side}
 use Rattle.slot_table.proofs.Turns.{turn, turned, Owes, prefix_more, prefix_trans, total_same}
 use Rattle.slot_table.proofs.Kept.{one-same, one-other, weigh, weigh_not, weigh_none, Like, role_kept, untouched, draft_kept}
-use Rattle.slot_table.specs.Steps.{found_in}
 use Rattle.slot_table.proofs.Below.{below-adds}
-use Rattle.slot_table.proofs.DetachingAlone.{closing-is}
+use Rattle.slot_table.proofs.GivingBackAlone.{closing-is}
 
 -- which slots a step touches: x, and a second
 abbrev pub either_is : ℕ → ℕ → ℕ → Bool
@@ -39,12 +39,12 @@ either_false x d y e =
 pub either_first : (x d : ℕ) → either_is x d x ≡ true
 either_first x d = ap (λ b. b || eqb x d) (eq-eqb x x refl)
 
-pub found-crumb : (o : Option ℕ) → found_in (crumb_of o) ≡ o
-found-crumb None = refl
-found-crumb (Some d) = refl
+pub found-side_word : (o : Option ℕ) → found_in (side_word o) ≡ o
+found-side_word None = refl
+found-side_word (Some d) = refl
 
-module _ (fits : List ℕ → List ℕ → Type 0) (k : Layout) (ls : List (List ℕ)) (u : View) (d : ℕ) where
-  abbrev v : View
+module _ (fits : List ℕ → List ℕ → Type 0) (k : Layout) (ls : List (List ℕ)) (u : SeatView) (d : ℕ) where
+  abbrev v : SeatView
   v = record u { role = Closing; draft = None }
 
   abbrev x : ℕ
@@ -53,15 +53,15 @@ module _ (fits : List ℕ → List ℕ → Type 0) (k : Layout) (ls : List (List
   abbrev wide : ℕ
   wide = k.capacity_words + 2
 
-  abbrev pub back : List Event → View
+  abbrev pub back : List Event → SeatView
   back all = record v { role = Share; free = x ∷ d ∷ u.free; front = all ++ Detach x (Some d) ∷ []; places = u.places ++ length all ∷ [] }
 
-  module _ (s : State ℕ View) (r : Holds fits k ls s) (id : ℕ) (at_id : get_elem? s.views id ≡ some v) (side : side_in (at (heap_after k r.all) x) ≡ Some d) where
+  module _ (s : State ℕ SeatView) (r : Holds fits k ls s) (id : ℕ) (at_id : get_elem? s.views id ≡ some v) (side : side_in (at (heap_after k r.all) x) ≡ Some d) where
     abbrev h : Heap
     h = heap_after k r.all
 
     abbrev now : List ℕ
-    now = set s.words (crumb_at k x) 0
+    now = set s.words (side_place k x) 0
 
     abbrev g : Heap
     g = set (set h x (detached (at h x))) d idle
@@ -99,16 +99,16 @@ module _ (fits : List ℕ → List ℕ → Type 0) (k : Layout) (ls : List (List
     at_else : (y : ℕ) → y ≢ x → y ≢ d → at g y ≡ at h y
     at_else y n m = at-set_else (set h x (detached (at h x))) d y idle m ∙ at-set_else h x y (detached (at h x)) n
 
-    ref_else : (y : ℕ) → ref_at k y ≢ crumb_at k x
+    ref_else : (y : ℕ) → count_place k y ≢ side_place k x
     ref_else y e = dite (ℕ_discrete y x)
-        (λ (q : y ≡ x). let a : ref_at k x ≡ crumb_at k x = ap (ref_at k) (sym q) ∙ e in omega arith)
+        (λ (q : y ≡ x). let a : count_place k x ≡ side_place k x = ap (count_place k) (sym q) ∙ e in omega arith)
         (λ (n : ¬ (y ≡ x)). apart wide y x 1 2 n (omega arith) (omega arith) (omega arith) (omega arith) e)
 
     slot_x : SlotOk k now (set s.views id (back r.all)) x idle
     slot_x = let c = total_set (closing_on x) s.views id v (back r.all) at_id in let f = total_set (free_on x) s.views id v (back r.all) at_id in let one_is = weigh x x 1 refl in let none_is = weigh_none x x 0 refl in let me = one-same x in let other = one-other x d x_not_d in
         let was_c : total (closing_on x) s.views ≡ 1 = here_x.closings ∙ ap closing_in x_closing in let was_f : total (free_on x) s.views ≡ 0 = here_x.frees ∙ ap idle_in x_closing in record {
-          count = get_or-set_other s.words (crumb_at k x) (ref_at k x) 0 0 (ref_else x) ∙ (here_x.count ∙ ap count_of x_closing);
-          crumb = get_or-set_same s.words (crumb_at k x) 0 0 (omega (arith, r.wide, within wide k.slots x 2 x_below (omega arith)));
+          count = get_or-set_other s.words (side_place k x) (count_place k x) 0 0 (ref_else x) ∙ (here_x.count ∙ ap count_of x_closing);
+          side_shown = get_or-set_same s.words (side_place k x) 0 0 (omega (arith, r.wide, within wide k.slots x 2 x_below (omega arith)));
           content = λ i below. absurd (omega arith);
           room = omega arith;
           alive = tt;
@@ -119,8 +119,8 @@ module _ (fits : List ℕ → List ℕ → Type 0) (k : Layout) (ls : List (List
 
     slot_d : SlotOk k now (set s.views id (back r.all)) d idle
     slot_d = let f = total_set (free_on d) s.views id v (back r.all) at_id in let me = one-same d in let other = one-other d x (λ q. x_not_d (sym q)) in let was_f : total (free_on d) s.views ≡ 0 = here_d.frees ∙ ap idle_in d_side.1 in record {
-      count = get_or-set_other s.words (crumb_at k x) (ref_at k d) 0 0 (ref_else d) ∙ (here_d.count ∙ ap count_of d_side.1);
-      crumb = get_or-set_other s.words (crumb_at k x) (crumb_at k d) 0 0 (λ e. apart wide d x 2 2 (λ q. x_not_d (sym q)) (omega arith) (omega arith) (omega arith) (omega arith) e) ∙ (here_d.crumb ∙ ap (λ c. crumb_of (side_in c)) d_side.1);
+      count = get_or-set_other s.words (side_place k x) (count_place k d) 0 0 (ref_else d) ∙ (here_d.count ∙ ap count_of d_side.1);
+      side_shown = get_or-set_other s.words (side_place k x) (side_place k d) 0 0 (λ e. apart wide d x 2 2 (λ q. x_not_d (sym q)) (omega arith) (omega arith) (omega arith) (omega arith) e) ∙ (here_d.side_shown ∙ ap (λ c. side_word (side_in c)) d_side.1);
       content = λ i below. absurd (omega arith);
       room = omega arith;
       alive = tt;
@@ -129,7 +129,7 @@ module _ (fits : List ℕ → List ℕ → Type 0) (k : Layout) (ls : List (List
       frees = omega (arith, f, me, other, was_f);
     }
 
-    other_like : (j : ℕ) (y : View) → get_elem? s.views j ≡ some y → ReferenceOk k h y → Like k h g y
+    other_like : (j : ℕ) (y : SeatView) → get_elem? s.views j ≡ some y → ReferenceOk k h y → Like k h g y
     other_like j y at_j ok =
         let some_there : 1 ≤ count_of (at h y.slot) = (let t = total_at (weight_on y.slot) s.views j y at_j in let a = weigh y.slot y.slot y.weight refl in let b = ok.weighs.0 in let c = (r.slots y.slot ok.below).weights in omega (arith, t, a, b, c)) in
         let not_x : y.slot ≢ x = (λ q. let a : count_of (at h y.slot) ≡ 0 = ap (λ z. count_of (at h z)) q ∙ ap count_of x_closing in omega arith) in
@@ -162,9 +162,9 @@ module _ (fits : List ℕ → List ℕ → Type 0) (k : Layout) (ls : List (List
       };
       others = λ j y ne at_j. let other = r.seats j y at_j in (
         role_kept k h g y y.role (λ _ ok. other_like j y at_j ok) other.role_is,
-        draft_kept k s.words (crumb_at k x) 0 y y.draft (λ z i e below. data_not_crumb k z i x below) other.draft_is,
+        draft_kept k s.words (side_place k x) 0 y y.draft (λ z i e below. data_not_side k z i x below) other.draft_is,
       );
     }
 
-    pub comes_back : Holds fits k ls (turned s (crumb_at k x) 0 id (back r.all))
+    pub comes_back : Holds fits k ls (turned s (side_place k x) 0 id (back r.all))
     comes_back = turn fits k ls s r id x 2 0 v (back r.all) (Detach x (Some d)) (either_is x d) at_id back_owes

@@ -8,16 +8,18 @@ use Rattle.slot_model.specs.declared.event.Event.TheVariants.{Detach}
 use Rattle.slot_model.specs.declared.layout.Layout.{Layout}
 use Rattle.slot_model.specs.History.{Slot, idle, held, closing, side_of, at, detached, count_of, words_of, side_in, idle_in, closing_in, heap_after}
 use Rattle.slot_model.proofs.Runs.{at-set_else}
-use Rattle.slot_table.specs.declared.view.View.{View}
+use Rattle.slot_table.specs.declared.view.SeatView.{SeatView}
 use Rattle.slot_table.specs.declared.view.Role.TheVariants.{Closing}
-use Rattle.slot_table.specs.Addresses.{ref_at, crumb_at}
-use Rattle.slot_table.specs.Seats.{total, weight_on, closing_on, free_on}
+use Rattle.slot_table.specs.Addresses.{count_place, side_place}
+use Rattle.slot_table.specs.Numbers.{total}
+use Rattle.slot_table.specs.Seats.{weight_on, closing_on, free_on}
 use Rattle.slot_table.specs.Holdings.{ReferenceOk, Holds}
 use Rattle.slot_table.proofs.Sums.{total_set, total_at}
-use Rattle.slot_table.proofs.Rows.{within, data_not_crumb}
+use Rattle.slot_table.proofs.Rows.{within, data_not_side}
 use Rattle.slot_table.proofs.Turns.{prefix_more, prefix_trans, total_same, OwesOne}
 use Rattle.slot_table.proofs.Kept.{one-same, one-other, weigh, weigh_not, weigh_none, role_kept, untouched, draft_kept, side_is-side}
-use Rattle.slot_table.specs.Steps.{opened, opening, recorded}
+use Rattle.slot_table.specs.ReferenceSteps.{opened, opening}
+use Rattle.slot_table.specs.Views.{recorded}
 use Rattle.slot_table.proofs.Below.{below-adds}
 
 pub closing-is : (c : Slot) → 1 ≤ closing_in c → c ≡ closing (side_in c)
@@ -26,8 +28,8 @@ closing-is (held n ws d) h = absurd (omega arith)
 closing-is (closing d) h = refl
 closing-is (side_of x ws) h = absurd (omega arith)
 
-module _ (fits : List ℕ → List ℕ → Type 0) (k : Layout) (ls : List (List ℕ)) (u : View) where
-  abbrev v : View
+module _ (fits : List ℕ → List ℕ → Type 0) (k : Layout) (ls : List (List ℕ)) (u : SeatView) where
+  abbrev v : SeatView
   v = record u { role = Closing; draft = None }
 
   abbrev x : ℕ
@@ -36,11 +38,11 @@ module _ (fits : List ℕ → List ℕ → Type 0) (k : Layout) (ls : List (List
   abbrev wide : ℕ
   wide = k.capacity_words + 2
 
-  abbrev after : List Event → View
+  abbrev after : List Event → SeatView
   after all = opened 0 (recorded v all (opening 0 v))
 
-  pub detach_owes : (s : State ℕ View) (r : Holds fits k ls s) (id : ℕ) → get_elem? s.views id ≡ some v → side_in (at (heap_after k r.all) x) ≡ None → OwesOne fits k ls s r id x 2 0 v (after r.all) (Detach x None) idle
-  detach_owes s r id at_id no_side =
+  pub gives_back_owes : (s : State ℕ SeatView) (r : Holds fits k ls s) (id : ℕ) → get_elem? s.views id ≡ some v → side_in (at (heap_after k r.all) x) ≡ None → OwesOne fits k ls s r id x 2 0 v (after r.all) (Detach x None) idle
+  gives_back_owes s r id at_id no_side =
       let seat = r.seats id v at_id in
       let mine_below : x < k.slots = seat.role_is.4 in
       let h = heap_after k r.all in
@@ -70,8 +72,8 @@ module _ (fits : List ℕ → List ℕ → Type 0) (k : Layout) (ls : List (List
           frees = let z = one-other y x ne in omega (arith, z);
         };
         here = record {
-          count = get_or-set_other s.words (crumb_at k x) (ref_at k x) 0 0 (λ e. let e' : ref_at k x ≡ crumb_at k x = e in omega arith) ∙ (here.count ∙ ap count_of was);
-          crumb = get_or-set_same s.words (crumb_at k x) 0 0 (omega (arith, r.wide, within wide k.slots x 2 mine_below (omega arith)));
+          count = get_or-set_other s.words (side_place k x) (count_place k x) 0 0 (λ e. let e' : count_place k x ≡ side_place k x = e in omega arith) ∙ (here.count ∙ ap count_of was);
+          side_shown = get_or-set_same s.words (side_place k x) 0 0 (omega (arith, r.wide, within wide k.slots x 2 mine_below (omega arith)));
           content = λ j below. absurd (omega arith);
           room = omega arith;
           alive = tt;
@@ -94,6 +96,6 @@ module _ (fits : List ℕ → List ℕ → Type 0) (k : Layout) (ls : List (List
               (λ e its. let side = side_is-side fits k r.all r.legal y.slot e its in
               ap words_of (at-set_else h x e _ (λ q. let t : closing None ≡ side_of y.slot side.0 = sym was ∙ (ap (at h) (sym q) ∙ side.1) in cc))))
               other.role_is,
-          draft_kept k s.words (crumb_at k x) 0 y y.draft (λ z i e below. data_not_crumb k z i x below) other.draft_is,
+          draft_kept k s.words (side_place k x) 0 y y.draft (λ z i e below. data_not_side k z i x below) other.draft_is,
         );
       }

@@ -1,5 +1,0 @@
-use Rattle.std.proofs.Common.{◌≡◌, ◌++◌, take, vec_capacity}
-use Rattle.slot_table.proofs.opening.append_words.Given as goal
-
-abbrev pub invariant-loop-word : goal.invariant-loop-word
-invariant-loop-word l = (l.words.items ≡ l.fn.words.items ++ take l.word-index l.more) × (vec_capacity l.words ≡ vec_capacity l.fn.words)
