@@ -11,7 +11,7 @@ use Rattle.std.specs.Char.{len_utf8}
 use Rattle.text_spec.specs.declared.encoding.Encoding.{Encoding}
 use Rattle.text_spec.specs.declared.encoding.Encoding.TheVariants.{Utf8, Utf16}
 use Rattle.text_spec.specs.Offsets.{len_utf16, start, down}
-use Rattle.text_spec.specs.Crumbs.{size16, index_word8, index16, crumbs}
+use Rattle.index_words.specs.Crumbs.{size16, index_word8, index16, crumbs}
 use Rattle.text_spec.specs.Views.{size_in}
 use Rattle.text_spec.proofs.Downward.{start-down, down-length, down-greatest}
 use Rattle.text_spec.proofs.Walk.{start-zero, start-suc, start-mono, down-next, down-start, down-end}

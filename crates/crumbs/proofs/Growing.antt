@@ -5,7 +5,7 @@ use Rattle.std.proofs.lemmas.Nat.{mul-le, div_below, le-div}
 use Rattle.std.proofs.lemmas.List.FromFn.{map-range_with_len_more, length-map-range_with_len}
 use Rattle.std.proofs.Math.Nat.{suc-mul}
 use Rattle.std.specs.List.{range_with_len}
-use Rattle.text_spec.specs.Crumbs.{size16, index16, crumbs}
+use Rattle.index_words.specs.Crumbs.{size16, index16, crumbs}
 use Rattle.slot_table.specs.Owners.{DraftSeen}
 use Rattle.crumbs.specs.Counting.{crumbs_below}
 

@@ -2,7 +2,7 @@
 use Rattle.std.proofs.Common.{◌≡◌, sym, ap, ◌∙◌, ℕ, ◌+◌, ◌-◌, ◌*◌, ◌==◌, List, Bool, true, false, if◌then◌else◌, arith}
 use Rattle.std.specs.Char.{len_utf8}
 use Rattle.text_spec.specs.declared.encoding.Encoding.TheVariants.{Utf8}
-use Rattle.text_spec.specs.Crumbs.{index16}
+use Rattle.index_words.specs.Crumbs.{index16}
 use Rattle.text_spec.specs.Offsets.{len_utf16, start, down}
 use Rattle.text_spec.specs.Rounding.{across, other_index}
 use Rattle.text_spec.proofs.Downward.{down-length}

@@ -10,7 +10,7 @@ use Rattle.std.specs.Char.{IsScalar, encode_utf8, len_utf8}
 use Rattle.std.specs.Str.{IsUtf8, is_utf8, encode_utf8_all, chars, StartsWithNoChar}
 use Rattle.text_spec.specs.declared.encoding.Encoding.TheVariants.{Utf8}
 use Rattle.text_spec.specs.Offsets.{len_utf16, start, down}
-use Rattle.text_spec.specs.Crumbs.{size16, index_word8, index16, crumbs}
+use Rattle.index_words.specs.Crumbs.{size16, index_word8, index16, crumbs}
 use Rattle.text_spec.specs.Packed.{byte_of, bytes_of, denoted_text}
 use Rattle.text_spec.proofs.Bytes.{scalar_at_index}
 use Rattle.text_spec.proofs.Decoding.{utf8-decode_utf8}

@@ -3,7 +3,7 @@ use Rattle.std.proofs.Common.{◌≡◌, sym, ap, subst, ◌∙◌, ℕ, ◌+◌
 use Rattle.std.specs.Option.{unwrap_or}
 use Rattle.text_spec.specs.declared.encoding.Encoding.TheVariants.{Utf8, Utf16}
 use Rattle.std.proofs.lemmas.Nat.{div-add-mod', le-div}
-use Rattle.text_spec.specs.Crumbs.{size16}
+use Rattle.index_words.specs.Crumbs.{size16}
 use Rattle.text_spec.specs.Packed.{content_words, denoted_text}
 use Rattle.text_spec.specs.Views.{size_in}
 use Rattle.text_spec.proofs.Denoting.{denoted_size, denoted_room}

@@ -10,7 +10,7 @@ use Rattle.text_spec.specs.Offsets.{len_utf16, start, down}
 use Rattle.text_spec.specs.Packed.{denoted_text}
 use Rattle.text_spec.specs.Views.{size_in}
 use Rattle.text_spec.proofs.Denoting.{denoted_as, utf8_words}
-use Rattle.text_spec.specs.Crumbs.{size16, index_word8, index16}
+use Rattle.index_words.specs.Crumbs.{size16, index_word8, index16}
 use Rattle.crumbs.specs.Counting.{units_begun, Seen}
 use Rattle.text_spec.proofs.Walk.{start-zero, start-suc, start-le, start-mono, down-start, down-unique, down-end}
 use Rattle.text_spec.proofs.Bytes.{length-utf8, covered, byte-after, lead-boundary, decoded, Decoded}

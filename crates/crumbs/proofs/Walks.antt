@@ -4,7 +4,7 @@ use Rattle.std.proofs.lemmas.Bool.{cases_lt, cond-true, and_parts, eq-eqb, eqb-t
 use Rattle.std.proofs.Math.Nat.{suc-mul}
 use Rattle.std.specs.Char.{len_utf8}
 use Rattle.text_spec.specs.declared.encoding.Encoding.TheVariants.{Utf8}
-use Rattle.text_spec.specs.Crumbs.{size16, index_word8, index16}
+use Rattle.index_words.specs.Crumbs.{size16, index_word8, index16}
 use Rattle.text_spec.specs.Offsets.{len_utf16, start, down}
 use Rattle.text_spec.specs.Rounding.{kept_offset, other_floor, other_offset}
 use Rattle.text_spec.specs.Views.{size_in}

@@ -2,7 +2,7 @@
 use Rattle.std.specs.Prelude.{◌≡◌, ℕ, ◌*◌, ◌<◌, ◌≤◌, nat_lt, List, ◌∷◌, length, map, if◌then◌else◌}
 use Rattle.std.specs.List.{range_with_len}
 use Rattle.std.specs.Char.{len_utf8}
-use Rattle.text_spec.specs.Crumbs.{size16, index16}
+use Rattle.index_words.specs.Crumbs.{size16, index16}
 use Rattle.text_spec.specs.Offsets.{len_utf16, start}
 
 -- how many UTF-16 units the scalar takes that a byte of UTF-8 begins: none where it continues one (The Unicode Standard, table 3-6)

@@ -2,7 +2,7 @@
 use Rattle.std.specs.Prelude.{◌≡◌, ℕ, ◌+◌, ◌-◌, ◌*◌, ◌/◌, ◌%◌, ◌^◌, ◌<◌, ◌≤◌, ◌==◌, List, [], ◌∷◌, length, take, drop, slice_index, Bool, false, Option, Some, None, if◌then◌else◌}
 use Rattle.std.specs.Char.{IsScalar, encode_utf8, len_utf8}
 use Rattle.text_spec.specs.declared.encoding.Encoding.TheVariants.{Utf8, Utf16}
-use Rattle.text_spec.specs.Crumbs.{index_word8, crumbs}
+use Rattle.index_words.specs.Crumbs.{index_word8, crumbs}
 use Rattle.text_spec.specs.Packed.{bytes_of, denoted_text}
 use Rattle.crumbs.specs.declared.count_word.TheConstants.{UTF16_BIT, COUNT_WIDTH}
 

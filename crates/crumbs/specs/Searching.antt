@@ -2,7 +2,7 @@
 use Rattle.std.specs.Prelude.{◌≡◌, ℕ, suc, ◌+◌, ◌-◌, ◌*◌, ◌/◌, ◌<◌, ◌≤◌, ◌==◌, min, nat_lt, List, length, if◌then◌else◌}
 use Rattle.std.specs.Char.{len_utf8}
 use Rattle.text_spec.specs.Offsets.{len_utf16, start, down}
-use Rattle.text_spec.specs.Crumbs.{size16, index16}
+use Rattle.index_words.specs.Crumbs.{size16, index16}
 use Rattle.index_words.specs.Fields.{place_of}
 
 -- of the breadcrumbs at each n-th UTF-16 unit, `crumb` at unit m is the last that isn't after the index

@@ -1,6 +1,6 @@
 //! The breadcrumb from which a question about a place starts.
 ghost use Rattle.std.specs.Prelude.{◌≡◌, ℕ, ◌+◌, ◌*◌, ◌/◌, ◌^◌, ◌<◌, ◌≤◌, true};
-ghost use Rattle.text_spec.specs.Crumbs.{size16, index16};
+ghost use Rattle.index_words.specs.Crumbs.{size16, index16};
 ghost use Rattle.index_words.specs.Fields.{place_of};
 ghost use Rattle.crumbs.specs.Searching.{IsLastCrumb};
 

@@ -1,7 +1,7 @@
 //! UTF-16 units counted over the bytes of a text in UTF-8 storage, where each word is read once.
 ghost use Rattle.std.specs.Prelude.{◌≡◌, ◌≢◌, ◌+◌, ◌*◌, ◌/◌, ◌%◌, ◌^◌, ◌<◌, ◌≤◌, length, slice_index};
 ghost use Rattle.text_spec.specs.declared.encoding.Encoding.TheVariants.{Utf8};
-ghost use Rattle.text_spec.specs.Crumbs.{size16};
+ghost use Rattle.index_words.specs.Crumbs.{size16};
 ghost use Rattle.text_spec.specs.Packed.{byte_of, content_words};
 ghost use Rattle.text_spec.specs.Views.{size_in};
 ghost use Rattle.crumbs.specs.Counting.{units_begun};

@@ -1,6 +1,6 @@
 //! Single breadcrumbs of a text whose breadcrumbs are known.
 ghost use Rattle.std.specs.Prelude.{◌≡◌, ◌+◌, ◌*◌, ◌/◌, ◌^◌, ◌<◌, ◌≤◌, true};
-ghost use Rattle.text_spec.specs.Crumbs.{size16, index_word8, index16};
+ghost use Rattle.index_words.specs.Crumbs.{size16, index_word8, index16};
 
 use index_words::Index;
 use std::sync::ledger::Ledger;

@@ -2,7 +2,7 @@
 ghost use Rattle.std.specs.Prelude.{◌≡◌, ℕ, ◌+◌, ◌*◌, ◌/◌, ◌<◌, ◌≤◌, List, length, slice_index};
 ghost use Rattle.std.specs.Char.{len_utf8};
 ghost use Rattle.text_spec.specs.declared.encoding.Encoding.TheVariants.{Utf8};
-ghost use Rattle.text_spec.specs.Crumbs.{size16, index16, crumbs};
+ghost use Rattle.index_words.specs.Crumbs.{size16, index16, crumbs};
 ghost use Rattle.text_spec.specs.Offsets.{len_utf16};
 ghost use Rattle.text_spec.specs.Rounding.{other_index};
 ghost use Rattle.index_words.specs.Fields.{place_of};

@@ -1,7 +1,7 @@
 //! The list of breadcrumbs written into a draft.
 ghost use Rattle.std.specs.Prelude.{◌≡◌, ℕ, List, ◌+◌, ◌-◌, ◌*◌, ◌/◌, ◌^◌, ◌<◌, ◌≤◌, ◌++◌, length};
 ghost use Rattle.text_spec.specs.declared.encoding.Encoding.TheVariants.{Utf8};
-ghost use Rattle.text_spec.specs.Crumbs.{size16, index_word8, index16, crumbs};
+ghost use Rattle.index_words.specs.Crumbs.{size16, index_word8, index16, crumbs};
 ghost use Rattle.text_spec.specs.Packed.{content_words};
 ghost use Rattle.text_spec.specs.Views.{size_in};
 ghost use Rattle.crumbs.specs.Counting.{crumbs_below};

@@ -1,7 +1,7 @@
 //! What no clause says: that each call answers at a concrete type, and the lists of texts written out by hand and by a plain program.
 ghost use Rattle.std.specs.Prelude.{◌≡◌, true, ◌+◌, ◌/◌, ◌<◌, ◌≤◌, [], ◌++◌, length, IsSome, IfOk, IfSome};
 ghost use Rattle.std.specs.Option.{unwrap_or};
-ghost use Rattle.text_spec.specs.Crumbs.{size16, crumbs};
+ghost use Rattle.index_words.specs.Crumbs.{size16, crumbs};
 ghost use Rattle.text_spec.specs.declared.encoding.Encoding.TheVariants.{Utf8};
 ghost use Rattle.text_spec.specs.Views.{size_in};
 ghost use Rattle.index_words.specs.Fields.{position_of};

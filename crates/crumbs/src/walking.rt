@@ -2,7 +2,7 @@
 ghost use Rattle.std.specs.Prelude.{◌≡◌, ℕ, ◌+◌, ◌*◌, ◌/◌, ◌^◌, ◌<◌, ◌≤◌, true, IfOk, IfErr};
 ghost use Rattle.std.specs.Char.{len_utf8};
 ghost use Rattle.text_spec.specs.declared.encoding.Encoding.TheVariants.{Utf8};
-ghost use Rattle.text_spec.specs.Crumbs.{size16, index16};
+ghost use Rattle.index_words.specs.Crumbs.{size16, index16};
 ghost use Rattle.text_spec.specs.Offsets.{len_utf16};
 ghost use Rattle.text_spec.specs.Rounding.{other_floor, other_offset};
 ghost use Rattle.text_spec.specs.Views.{size_in};

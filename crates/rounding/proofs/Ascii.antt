@@ -8,6 +8,7 @@ use Rattle.text_spec.specs.Rounding.{Place, across}
 use Rattle.text_spec.specs.Views.{width_in, other_width}
 use Rattle.text_spec.proofs.Walk.{start-zero, start-suc, down-start}
 use Rattle.text_spec.proofs.Widths.{width_some, other_some}
+use Rattle.word_units.specs.Parts.{part_of}
 use Rattle.rounding.specs.Resolving.{Bounds, other_place}
 use Rattle.rounding.proofs.Places.{other_in}
 
@@ -34,9 +35,9 @@ pub record AsciiOffset (e : Encoding) (b : List ℕ) (first end low high q : ℕ
   pub low_other : low ≡ start (other_width e) b first
   pub high_other : high ≡ start (other_width e) b end
   pub boundary : q ≤ high → start (width_in e) b (down (width_in e) b q) ≡ q
-  pub place : low ≤ q → q ≤ high → other_place e b first end q ≡ Some (q, 0)
+  pub place : low ≤ q → q ≤ high → other_place (part_of e b first end) q ≡ Some (q, 0)
 
-pub ascii_offset : (e : Encoding) (b : List ℕ) → ((k : ℕ) → k < length b → get_or b k 0 < 0x80) → (first end low high q : ℕ) → Bounds e b first end low high
+pub ascii_offset : (e : Encoding) (b : List ℕ) → ((k : ℕ) → k < length b → get_or b k 0 < 0x80) → (first end low high q : ℕ) → Bounds (part_of e b first end) low high
     → first ≤ length b → AsciiOffset e b first end low high q
 ascii_offset e b below first end low high q bounds inside =
     let w = width_in e in

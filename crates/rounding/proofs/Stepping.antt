@@ -7,6 +7,7 @@ use Rattle.text_spec.specs.Views.{width_in, other_width}
 use Rattle.text_spec.proofs.Walk.{start-mono}
 use Rattle.text_spec.proofs.Widths.{width_some, other_most}
 use Rattle.word_units.specs.Running.{PassesRun}
+use Rattle.word_units.specs.Parts.{part_of}
 use Rattle.rounding.specs.Resolving.{Reaches}
 
 -- a scalar has at most four units of one encoding for each of the other
@@ -22,17 +23,17 @@ earlier w b at to here there before =
     (cases_lt (down w b at) (down w b to))
 
 -- the boundary behind what is passed, which isn't after the end of the walk
-pub record Stepped (e : Encoding) (b : List ℕ) (at to next units scalars : ℕ) : Type 0 where
-  pub reaches : Reaches e b next units
+pub record Stepped (e : Encoding) (b : List ℕ) (first end at to next units scalars : ℕ) : Type 0 where
+  pub reaches : Reaches (part_of e b first end) next units
   pub within : next ≤ to
   pub before : down (width_in e) b at + 1 ≤ down (width_in e) b to
   pub number : down (width_in e) b next ≡ down (width_in e) b at + scalars
   pub some : 1 ≤ scalars
   pub few : units ≤ 4 * next
 
-pub stepped : (e : Encoding) (b : List ℕ) (at units to most next more scalars : ℕ) → Reaches e b at units → PassesRun e b at most next more scalars
-    → at + most ≤ to → at < to → start (width_in e) b (down (width_in e) b to) ≡ to → Stepped e b at to next (units + more) scalars
-stepped e b at units to most next more scalars reached passes fits before there =
+pub stepped : (e : Encoding) (b : List ℕ) (first end at units to most next more scalars : ℕ) → Reaches (part_of e b first end) at units → PassesRun (part_of e b first end) at most next more scalars
+    → at + most ≤ to → at < to → start (width_in e) b (down (width_in e) b to) ≡ to → Stepped e b first end at to next (units + more) scalars
+stepped e b first end at units to most next more scalars reached passes fits before there =
     let w = width_in e in
     let first = earlier w b at to reached.boundary there before in
     let offset : start (other_width e) b (down w b next) ≡ units + more = omega (arith, passes.other, reached.offset) in

@@ -2,9 +2,8 @@
 ghost use Rattle.std.specs.Prelude.{◌≡◌, ◌+◌, ◌≤◌};
 ghost use Rattle.text_spec.specs.Rounding as rounding;
 ghost use Rattle.text_spec.specs.declared.encoding.Encoding.TheVariants.{Utf8, Utf16};
-ghost use Rattle.text_spec.specs.Offsets.{start};
-ghost use Rattle.text_spec.specs.Views.{width_in, other_width};
-ghost use Rattle.rounding.specs.Resolving.{IsResolved, IsFloor, index_place, index_at, floor_in};
+ghost use Rattle.text_spec.specs.Views.{width_in};
+ghost use Rattle.rounding.specs.Resolving.{IsResolved, IsFloor, index_place, index_at, floor_across, floor_in};
 
 use crate::place::{bounds, index_from};
 use index_words::Index;
@@ -14,8 +13,8 @@ use word_units::{Steps, Text, boundary_at_or_before, pass_scalar};
 
 /// The greatest scalar boundary that isn't after the index, in code units of the storage.
 fn boundary_before<T: Text, L: Ledger>(t: &mut T, i: Index, steps: &mut Steps<L>) -> u64
-    requires { IsResolved (T.storage t.old) (T.whole t.old) (T.first t.old) (T.end t.old) i }
-    ensures floor { IsFloor (T.storage t.old) (T.whole t.old) (T.first t.old) (T.end t.old) i result }
+    requires { IsResolved (T.part t.old) i }
+    ensures floor { IsFloor (T.part t.old) i result }
     ensures kept { t.new ≡ t.old }
     ensures cost { steps.new ≤ steps.old + 2 }
 {
@@ -27,8 +26,8 @@ fn boundary_before<T: Text, L: Ledger>(t: &mut T, i: Index, steps: &mut Steps<L>
 ///
 /// `i` is marked for the storage's encoding alone and in range, as `resolve` answers it. At most two words are read.
 pub fn scalar_floor<T: Text, L: Ledger>(t: &mut T, i: Index, steps: &mut Steps<L>) -> Index
-    requires { IsResolved (T.storage t.old) (T.whole t.old) (T.first t.old) (T.end t.old) i }
-    ensures floor { result ≡ index_at (T.storage t.old) (T.whole t.old) (rounding.scalar_floor (width_in (T.storage t.old)) (T.whole t.old) (index_place i)) }
+    requires { IsResolved (T.part t.old) i }
+    ensures floor { result ≡ index_at (T.part t.old) (rounding.scalar_floor (width_in (T.part t.old).storage) (T.part t.old).whole (index_place i)) }
     ensures kept { t.new ≡ t.old }
     ensures cost { steps.new ≤ steps.old + 2 }
 {
@@ -39,8 +38,8 @@ pub fn scalar_floor<T: Text, L: Ledger>(t: &mut T, i: Index, steps: &mut Steps<L
 
 /// The floor among the storage's own code units: the position stays, and the transcoded offset is dropped.
 fn unit_floor<T: Text, L: Ledger>(t: &mut T, i: Index, steps: &mut Steps<L>) -> Index
-    requires { IsResolved (T.storage t.old) (T.whole t.old) (T.first t.old) (T.end t.old) i }
-    ensures floor { result ≡ index_at (T.storage t.old) (T.whole t.old) (rounding.unit_floor (index_place i)) }
+    requires { IsResolved (T.part t.old) i }
+    ensures floor { result ≡ index_at (T.part t.old) (rounding.unit_floor (index_place i)) }
     ensures kept { t.new ≡ t.old }
     ensures cost { steps.new ≤ steps.old + 2 }
 {
@@ -55,9 +54,8 @@ fn unit_floor<T: Text, L: Ledger>(t: &mut T, i: Index, steps: &mut Steps<L>) -> 
 
 /// The floor among the code units of the encoding that isn't the storage's.
 fn other_floor<T: Text, L: Ledger>(t: &mut T, i: Index, steps: &mut Steps<L>) -> Index
-    requires { IsResolved (T.storage t.old) (T.whole t.old) (T.first t.old) (T.end t.old) i }
-    ensures floor { result ≡ index_at (T.storage t.old) (T.whole t.old) (rounding.other_floor (width_in (T.storage t.old)) (other_width (T.storage t.old))
-        (T.whole t.old) (start (width_in (T.storage t.old)) (T.whole t.old) (T.end t.old)) (index_place i)) }
+    requires { IsResolved (T.part t.old) i }
+    ensures floor { result ≡ index_at (T.part t.old) (floor_across (T.part t.old) (index_place i)) }
     ensures kept { t.new ≡ t.old }
     ensures cost { steps.new ≤ steps.old + 4 }
 {
@@ -83,9 +81,8 @@ fn other_floor<T: Text, L: Ledger>(t: &mut T, i: Index, steps: &mut Steps<L>) ->
 ///
 /// `i` is marked for the storage's encoding alone and in range, as `resolve` answers it. At most four words are read.
 pub fn utf16_floor<T: Text, L: Ledger>(t: &mut T, i: Index, steps: &mut Steps<L>) -> Index
-    requires { IsResolved (T.storage t.old) (T.whole t.old) (T.first t.old) (T.end t.old) i }
-    ensures floor { result ≡ index_at (T.storage t.old) (T.whole t.old)
-        (floor_in Utf16 (T.storage t.old) (T.whole t.old) (T.end t.old) (index_place i)) }
+    requires { IsResolved (T.part t.old) i }
+    ensures floor { result ≡ index_at (T.part t.old) (floor_in Utf16 (T.part t.old) (index_place i)) }
     ensures kept { t.new ≡ t.old }
     ensures cost { steps.new ≤ steps.old + 4 }
 {
@@ -99,9 +96,8 @@ pub fn utf16_floor<T: Text, L: Ledger>(t: &mut T, i: Index, steps: &mut Steps<L>
 ///
 /// `i` is marked for the storage's encoding alone and in range, as `resolve` answers it. At most four words are read.
 pub fn utf8_floor<T: Text, L: Ledger>(t: &mut T, i: Index, steps: &mut Steps<L>) -> Index
-    requires { IsResolved (T.storage t.old) (T.whole t.old) (T.first t.old) (T.end t.old) i }
-    ensures floor { result ≡ index_at (T.storage t.old) (T.whole t.old)
-        (floor_in Utf8 (T.storage t.old) (T.whole t.old) (T.end t.old) (index_place i)) }
+    requires { IsResolved (T.part t.old) i }
+    ensures floor { result ≡ index_at (T.part t.old) (floor_in Utf8 (T.part t.old) (index_place i)) }
     ensures kept { t.new ≡ t.old }
     ensures cost { steps.new ≤ steps.old + 4 }
 {

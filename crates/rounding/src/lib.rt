@@ -18,4 +18,4 @@ mod walk;
 
 pub use floors::{scalar_floor, utf8_floor, utf16_floor};
 pub use place::{bounds, index_from};
-pub use resolution::resolve;
+pub use resolution::{resolve, scalar_boundary};

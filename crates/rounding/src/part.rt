@@ -55,16 +55,12 @@ impl Text for Part {
     ghost use Rattle.text_spec.specs.Offsets.{down};
     ghost use Rattle.text_spec.specs.Views.{width_in};
     ghost use Rattle.word_units.specs.Owned.{text_of};
+    ghost use Rattle.word_units.specs.Parts.{part_of};
 
-    ghost storage = { λ part. part.0.1 };
+    ghost part = { λ part. part_of (part.0.1) (text_of (part.0)) (down (width_in (part.0.1)) (text_of (part.0)) (part.1))
+        (down (width_in (part.0.1)) (text_of (part.0)) (part.2)) };
 
     ghost words = { λ part. part.0.0 };
-
-    ghost whole = { λ part. text_of (part.0) };
-
-    ghost first = { λ part. down (width_in (part.0.1)) (text_of (part.0)) (part.1) };
-
-    ghost end = { λ part. down (width_in (part.0.1)) (text_of (part.0)) (part.2) };
 
     ghost knows_crumbs = { λ part. false };
 

@@ -1,5 +1,5 @@
 //! Where a text begins and ends, and the index of a place that is told.
-ghost use Rattle.std.specs.Prelude.{◌≡◌, ◌^◌, ◌<◌, ◌==◌, ℕ};
+ghost use Rattle.std.specs.Prelude.{◌≡◌, ◌^◌, ◌<◌, ◌==◌};
 ghost use Rattle.index_words.specs.Fields.{plain, word_of};
 ghost use Rattle.rounding.specs.Resolving.{Bounds};
 
@@ -9,7 +9,7 @@ use word_units::Text;
 
 /// The text's first and last boundary, in code units of the storage.
 pub fn bounds<T: Text>(t: &T) -> (u64, u64)
-    ensures { Bounds (T.storage t.now) (T.whole t.now) (T.first t.now) (T.end t.now) result.0 result.1 }
+    ensures { Bounds (T.part t.now) result.0 result.1 }
 {
     let _count = t.count();
     (t.low(), t.high())

@@ -1,8 +1,10 @@
 //! An index read on a text.
-ghost use Rattle.std.specs.Prelude.{◌≡◌, ◌+◌, ◌*◌, ◌≤◌, ◌<◌, ℕ, true, false, Some, None, IfOk, IfErr, length};
+ghost use Rattle.std.specs.Prelude.{◌≡◌, ◌+◌, ◌*◌, ◌≤◌, ◌<◌, true, false, Some, None, IfOk, IfErr, length};
 ghost use Rattle.text_spec.specs.Offsets.{start};
-ghost use Rattle.text_spec.specs.Views.{width_in, other_width};
+ghost use Rattle.text_spec.specs.Views.{other_width};
 ghost use Rattle.index_words.specs.Fields.{position_of};
+ghost use Rattle.word_units.specs.Parts.{low_of, high_of, IsBoundaryIn, scalars_before};
+ghost use Rattle.rounding.specs.Refusals.{IsOutOfRange, boundary_of, scalar_of};
 ghost use Rattle.rounding.specs.Resolving as resolving;
 
 use crate::place::{bounds, index_from};
@@ -10,7 +12,7 @@ use crate::walk::{boundary_of, units_before};
 use index_words::Index;
 use std::sync::ledger::Ledger;
 use text_spec::Encoding;
-use word_units::{OutOfBounds, Steps, Text};
+use word_units::{OutOfBounds, Steps, Text, boundary_at_or_before};
 
 /// Whether an index is marked for the encoding that isn't the storage's, and for it alone.
 fn reads_other(encoding: Encoding, i: Index) -> bool
@@ -24,14 +26,14 @@ fn reads_other(encoding: Encoding, i: Index) -> bool
 
 /// The index of a position in code units of the storage.
 fn resolve_own<T: Text>(t: &T, i: Index) -> Result<Index, OutOfBounds>
-    ensures found { IfOk result (λ index. resolving.own_place (T.storage t.now) (T.whole t.now) (T.first t.now) (T.end t.now) i
+    ensures found { IfOk result (λ index. resolving.own_place (T.part t.now) i
         ≡ Some (resolving.index_place index)) }
-    ensures word { IfOk result (λ index. index ≡ resolving.index_known (T.storage t.now) (T.whole t.now) false (resolving.index_place index)) }
-    ensures refused { IfErr result (λ out. resolving.own_place (T.storage t.now) (T.whole t.now) (T.first t.now) (T.end t.now) i ≡ None) }
+    ensures word { IfOk result (λ index. index ≡ resolving.index_known (T.part t.now) false (resolving.index_place index)) }
+    ensures refused { IfErr result (λ out. resolving.own_place (T.part t.now) i ≡ None) }
     ensures carries { IfErr result (λ out. out ≡ record {
       position = position_of i;
-      low = start (width_in (T.storage t.now)) (T.whole t.now) (T.first t.now);
-      high = start (width_in (T.storage t.now)) (T.whole t.now) (T.end t.now);
+      low = low_of (T.part t.now);
+      high = high_of (T.part t.now);
     }) }
 {
     let position = i.position();
@@ -56,16 +58,16 @@ fn resolve_own<T: Text>(t: &T, i: Index) -> Result<Index, OutOfBounds>
 /// The index of an offset in the encoding that isn't the storage's, in a text marked ASCII: it is the position in the storage's.
 fn resolve_ascii<T: Text>(t: &T, offset: u64) -> Result<Index, OutOfBounds>
     requires { T.marked_ascii t.now ≡ true }
-    ensures found { IfOk result (λ index. resolving.other_place (T.storage t.now) (T.whole t.now) (T.first t.now) (T.end t.now) offset
+    ensures found { IfOk result (λ index. resolving.other_place (T.part t.now) offset
         ≡ Some (resolving.index_place index)) }
-    ensures word { IfOk result (λ index. index ≡ resolving.index_known (T.storage t.now) (T.whole t.now) true (resolving.index_place index)) }
-    ensures refused { IfErr result (λ out. resolving.other_place (T.storage t.now) (T.whole t.now) (T.first t.now) (T.end t.now) offset ≡ None) }
+    ensures word { IfOk result (λ index. index ≡ resolving.index_known (T.part t.now) true (resolving.index_place index)) }
+    ensures refused { IfErr result (λ out. resolving.other_place (T.part t.now) offset ≡ None) }
     ensures carries { IfErr result (λ out. out ≡ record {
       position = offset;
-      low = start (other_width (T.storage t.now)) (T.whole t.now) (T.first t.now);
-      high = start (other_width (T.storage t.now)) (T.whole t.now) (T.end t.now);
+      low = start (other_width (T.part t.now).storage) (T.part t.now).whole (T.part t.now).first;
+      high = start (other_width (T.part t.now).storage) (T.part t.now).whole (T.part t.now).end;
     }) }
-    ensures resolved { IfOk result (resolving.IsResolved (T.storage t.now) (T.whole t.now) (T.first t.now) (T.end t.now)) }
+    ensures resolved { IfOk result (resolving.IsResolved (T.part t.now)) }
 {
     let _ascii = t.ascii();
     let _low = t.low();
@@ -94,18 +96,18 @@ fn resolve_other<T: Text, L: Ledger>(
     offset: u64,
     steps: &mut Steps<L>,
 ) -> Result<Index, OutOfBounds>
-    ensures found { IfOk result (λ index. resolving.other_place (T.storage t.old) (T.whole t.old) (T.first t.old) (T.end t.old) offset
+    ensures found { IfOk result (λ index. resolving.other_place (T.part t.old) offset
         ≡ Some (resolving.index_place index)) }
-    ensures word { IfOk result (λ index. index ≡ resolving.index_known (T.storage t.old) (T.whole t.old) true (resolving.index_place index)) }
-    ensures refused { IfErr result (λ out. resolving.other_place (T.storage t.old) (T.whole t.old) (T.first t.old) (T.end t.old) offset ≡ None) }
+    ensures word { IfOk result (λ index. index ≡ resolving.index_known (T.part t.old) true (resolving.index_place index)) }
+    ensures refused { IfErr result (λ out. resolving.other_place (T.part t.old) offset ≡ None) }
     ensures carries { IfErr result (λ out. out ≡ record {
       position = offset;
-      low = start (other_width (T.storage t.old)) (T.whole t.old) (T.first t.old);
-      high = start (other_width (T.storage t.old)) (T.whole t.old) (T.end t.old);
+      low = start (other_width (T.part t.old).storage) (T.part t.old).whole (T.part t.old).first;
+      high = start (other_width (T.part t.old).storage) (T.part t.old).whole (T.part t.old).end;
     }) }
-    ensures resolved { IfOk result (resolving.IsResolved (T.storage t.old) (T.whole t.old) (T.first t.old) (T.end t.old)) }
+    ensures resolved { IfOk result (resolving.IsResolved (T.part t.old)) }
     ensures kept { t.new ≡ t.old }
-    ensures cost { steps.new ≤ steps.old + 2 * length (T.whole t.old) }
+    ensures cost { steps.new ≤ steps.old + 2 * length (T.part t.old).whole }
     ensures unread { T.marked_ascii t.old ≡ true → steps.new ≡ steps.old }
 {
     let encoding = t.encoding();
@@ -150,26 +152,45 @@ pub fn resolve<T: Text, L: Ledger>(
     i: Index,
     steps: &mut Steps<L>,
 ) -> Result<Index, OutOfBounds>
-    ensures found { IfOk result (λ index. resolving.resolved (T.storage t.old) (T.whole t.old) (T.first t.old) (T.end t.old) i
+    ensures found { IfOk result (λ index. resolving.resolved (T.part t.old) i
         ≡ Some (resolving.index_place index)) }
     ensures word { IfOk result (λ index. index
-        ≡ resolving.index_known (T.storage t.old) (T.whole t.old) (resolving.reads_other (T.storage t.old) i) (resolving.index_place index)) }
-    ensures refused { IfErr result (λ out. resolving.resolved (T.storage t.old) (T.whole t.old) (T.first t.old) (T.end t.old) i ≡ None) }
-    ensures carries { IfErr result (λ out. out ≡ record {
-      position = position_of i;
-      low = start (resolving.read_width (T.storage t.old) i) (T.whole t.old) (T.first t.old);
-      high = start (resolving.read_width (T.storage t.old) i) (T.whole t.old) (T.end t.old);
-    }) }
+        ≡ resolving.index_known (T.part t.old) (resolving.reads_other (T.part t.old).storage i) (resolving.index_place index)) }
+    ensures refused { IfErr result (IsOutOfRange (T.part t.old) i) }
 
     // What the floors and the views ask of an index.
-    ensures resolved { IfOk result (resolving.IsResolved (T.storage t.old) (T.whole t.old) (T.first t.old) (T.end t.old)) }
+    ensures resolved { IfOk result (resolving.IsResolved (T.part t.old)) }
     ensures kept { t.new ≡ t.old }
-    ensures cost { steps.new ≤ steps.old + 2 * length (T.whole t.old) }
-    ensures free { resolving.reads_other (T.storage t.old) i ≡ false → steps.new ≡ steps.old }
+    ensures cost { steps.new ≤ steps.old + 2 * length (T.part t.old).whole }
+    ensures free { resolving.reads_other (T.part t.old).storage i ≡ false → steps.new ≡ steps.old }
     ensures unread { T.marked_ascii t.old ≡ true → steps.new ≡ steps.old }
 {
     if reads_other(t.encoding(), i) {
         return resolve_other(t, i.position(), steps);
     }
     resolve_own(t, i)
+}
+
+/// The scalar boundary that an index is rounded down to, in code units of the storage.
+///
+/// Refused as `resolve` refuses the index, and for nothing else. Two words at most are read beside those that resolving reads.
+pub fn scalar_boundary<T: Text, L: Ledger>(
+    t: &mut T,
+    i: Index,
+    steps: &mut Steps<L>,
+) -> Result<u64, OutOfBounds>
+    ensures found { IfOk result (λ at. boundary_of (T.part t.old) i ≡ Some at) }
+    ensures number { IfOk result (λ at. scalar_of (T.part t.old) i ≡ Some (scalars_before (T.part t.old) at)) }
+    ensures boundary { IfOk result (IsBoundaryIn (T.part t.old)) }
+    ensures low { IfOk result (λ at. low_of (T.part t.old) ≤ at) }
+    ensures high { IfOk result (λ at. at ≤ high_of (T.part t.old)) }
+    ensures refused { IfErr result (IsOutOfRange (T.part t.old) i) }
+    ensures kept { t.new ≡ t.old }
+    ensures cost { steps.new ≤ steps.old + 2 * length (T.part t.old).whole + 2 }
+    ensures near { resolving.reads_other (T.part t.old).storage i ≡ false → steps.new ≤ steps.old + 2 }
+    ensures ascii { T.marked_ascii t.old ≡ true → steps.new ≤ steps.old + 2 }
+{
+    let (_low, _high) = bounds(t);
+    let index = resolve(t, i, steps)?;
+    Ok(boundary_at_or_before(t, index.position(), steps))
 }

@@ -1,7 +1,8 @@
 //! Walks over scalars, a word at once, that count the units of both encodings.
 ghost use Rattle.std.specs.Prelude.{◌≡◌, ◌+◌, ◌*◌, ◌<◌, ◌≤◌, ◌⊎◌, suc};
-ghost use Rattle.text_spec.specs.Offsets.{start, down};
-ghost use Rattle.text_spec.specs.Views.{width_in, other_width, size_in};
+ghost use Rattle.text_spec.specs.Offsets.{start};
+ghost use Rattle.text_spec.specs.Views.{other_width};
+ghost use Rattle.word_units.specs.Parts.{storage_size, IsBoundaryIn, scalars_before};
 ghost use Rattle.rounding.specs.Resolving.{Reaches};
 
 use std::sync::ledger::Ledger;
@@ -17,13 +18,13 @@ pub fn units_before<T: Text, L: Ledger>(
     to: u64,
     steps: &mut Steps<L>,
 ) -> u64
-    requires begun { Reaches (T.storage t.old) (T.whole t.old) from units }
+    requires begun { Reaches (T.part t.old) from units }
     requires order { from ≤ to }
-    requires inside { to ≤ size_in (T.storage t.old) (T.whole t.old) }
-    requires boundary { start (width_in (T.storage t.old)) (T.whole t.old) (down (width_in (T.storage t.old)) (T.whole t.old) to) ≡ to }
-    ensures units { Reaches (T.storage t.old) (T.whole t.old) to result }
+    requires inside { to ≤ storage_size (T.part t.old) }
+    requires boundary { IsBoundaryIn (T.part t.old) to }
+    ensures units { Reaches (T.part t.old) to result }
     ensures kept { t.new ≡ t.old }
-    ensures cost { steps.new + 2 * down (width_in (T.storage t.old)) (T.whole t.old) from ≤ steps.old + 2 * down (width_in (T.storage t.old)) (T.whole t.old) to }
+    ensures cost { steps.new + 2 * scalars_before (T.part t.old) from ≤ steps.old + 2 * scalars_before (T.part t.old) to }
 {
     let _count = t.count();
     let mut at = from;
@@ -48,19 +49,19 @@ pub fn boundary_of<T: Text, L: Ledger>(
     offset: u64,
     steps: &mut Steps<L>,
 ) -> (u64, u64)
-    requires begun { Reaches (T.storage t.old) (T.whole t.old) from units }
+    requires begun { Reaches (T.part t.old) from units }
     requires order { from ≤ to }
-    requires inside { to ≤ size_in (T.storage t.old) (T.whole t.old) }
-    requires boundary { start (width_in (T.storage t.old)) (T.whole t.old) (down (width_in (T.storage t.old)) (T.whole t.old) to) ≡ to }
+    requires inside { to ≤ storage_size (T.part t.old) }
+    requires boundary { IsBoundaryIn (T.part t.old) to }
     requires before { units ≤ offset }
-    ensures reached { Reaches (T.storage t.old) (T.whole t.old) result.0 result.1 }
+    ensures reached { Reaches (T.part t.old) result.0 result.1 }
     ensures ahead { from ≤ result.0 }
     ensures not_after { (result.0 ≤ to) × (result.1 ≤ offset) }
     ensures last { (result.0 ≡ to) ⊎ ((result.0 < to)
-        × (offset < start (other_width (T.storage t.old)) (T.whole t.old) (suc (down (width_in (T.storage t.old)) (T.whole t.old) (result.0))))) }
+        × (offset < start (other_width (T.part t.old).storage) (T.part t.old).whole (suc (scalars_before (T.part t.old) (result.0))))) }
     ensures kept { t.new ≡ t.old }
-    ensures cost { steps.new + 2 * down (width_in (T.storage t.old)) (T.whole t.old) from
-        ≤ steps.old + 2 * down (width_in (T.storage t.old)) (T.whole t.old) to }
+    ensures cost { steps.new + 2 * scalars_before (T.part t.old) from
+        ≤ steps.old + 2 * scalars_before (T.part t.old) to }
 {
     let _count = t.count();
     let mut at = from;

@@ -1,8 +1,7 @@
--- Packed words, rounding and breadcrumbs, computed at texts worked out by hand.
-use Rattle.std.proofs.Common.{◌≡◌, refl, [], ◌∷◌, ◌++◌, replicate, Some, None}
+-- Packed words and rounding, computed at texts worked out by hand.
+use Rattle.std.proofs.Common.{◌≡◌, refl, [], ◌∷◌, Some, None}
 use Rattle.std.specs.Char.{len_utf8}
 use Rattle.text_spec.specs.declared.encoding.Encoding.TheVariants.{Utf8}
-use Rattle.text_spec.specs.Crumbs.{crumbs}
 use Rattle.text_spec.specs.Offsets.{len_utf16}
 use Rattle.text_spec.specs.Packed.{bytes_of, units_of, content_words}
 use Rattle.text_spec.specs.Rounding.{resolve_own, resolve_other, scalar_floor, other_floor, other_index, other_offset}
@@ -54,7 +53,3 @@ second_half_is_offset_two = refl
 
 offset_two_is_second_half : other_index len_utf8 len_utf16 (97 ∷ 128512 ∷ []) 0 2 ≡ (1, 1)
 offset_two_is_second_half = refl
-
--- 63 letters of two bytes, a pair, 63 letters more: units 0, 64 and 128
-crumbs_of_long : crumbs (replicate 63 233 ++ (128512 ∷ replicate 63 233)) 64 ≡ 128 ∷ 5 ∷ 8273924 ∷ 16777221 ∷ []
-crumbs_of_long = refl

@@ -4,6 +4,5 @@ pub mod Boundaries
 pub mod Packed
 pub mod Views
 pub mod Rounding
-pub mod Crumbs
 pub mod Editing
 pub mod Texts

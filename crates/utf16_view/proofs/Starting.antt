@@ -5,7 +5,7 @@ use Rattle.std.specs.Char.{len_utf8}
 use Rattle.std.specs.Option.{option_map}
 use Rattle.text_spec.specs.declared.encoding.Encoding.{Encoding}
 use Rattle.text_spec.specs.declared.encoding.Encoding.TheVariants.{Utf8, Utf16}
-use Rattle.text_spec.specs.Crumbs.{size16, index16}
+use Rattle.index_words.specs.Crumbs.{size16, index16}
 use Rattle.text_spec.specs.Offsets.{len_utf16}
 use Rattle.text_spec.specs.Rounding.{Place, other_floor, other_offset}
 use Rattle.text_spec.specs.Text.{utf16}

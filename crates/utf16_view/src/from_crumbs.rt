@@ -1,7 +1,7 @@
 //! Questions about offsets that start from a breadcrumb.
 ghost use Rattle.std.specs.Prelude.{◌≡◌, ℕ, ◌+◌, ◌*◌, ◌/◌, ◌^◌, ◌<◌, ◌≤◌, true, false, Some, IfOk, IfErr};
 ghost use Rattle.rounding.specs.Resolving.{reads_other};
-ghost use Rattle.text_spec.specs.Crumbs.{size16};
+ghost use Rattle.index_words.specs.Crumbs.{size16};
 ghost use Rattle.index_words.specs.Fields.{position_of};
 ghost use Rattle.crumbs.specs.Searching.{IsLastCrumb, words_to_unit, words_to_byte};
 ghost use Rattle.text_spec.specs.declared.encoding.Encoding.TheVariants.{Utf8, Utf16};

@@ -1,6 +1,6 @@
 //! A text as code units of UTF-16 (The Unicode Standard, section 3.9, D91).
 ghost use Rattle.std.specs.Char.Escape.{encode_utf16};
-ghost use Rattle.text_spec.specs.Crumbs.{size16};
+ghost use Rattle.index_words.specs.Crumbs.{size16};
 ghost use Rattle.index_words.specs.Fields.{position_of};
 ghost use Rattle.crumbs.specs.Searching.{IsLastCrumb, words_to_unit, words_to_byte};
 ghost use Rattle.text_spec.specs.Offsets.{start, len_utf16};

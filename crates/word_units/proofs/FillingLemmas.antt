@@ -14,6 +14,7 @@ use Rattle.text_spec.proofs.Walk.{start-suc, start-mono, down-next, down-start}
 use Rattle.text_spec.proofs.Widths.{width_some}
 use Rattle.word_units.specs.Filling.{IsPiece}
 use Rattle.word_units.proofs.Passing.{passes}
+use Rattle.word_units.specs.Parts.{part_of}
 
 -- nothing lies between a boundary and itself
 pub utf8-part-none : (b : List ℕ) (k : ℕ) → [] ≡ utf8 (part b k k)
@@ -35,10 +36,10 @@ pub grows : (b : List ℕ) (j k m c : ℕ) → j ≤ k → k < length b → m �
 grows b j k m c order inside next is =
     ap (λ x. utf8 (part b j k) ++ encode_utf8 x) is ∙ sym (utf8-part-more b j k order inside) ∙ ap (λ n. utf8 (part b j n)) (sym next)
 
-pub piece_of : (e : Encoding) (b : List ℕ) (from to size : ℕ) (piece : List ℕ) → piece ≡ utf8 (part b (down (width_in e) b from) (down (width_in e) b to))
+pub piece_of : (e : Encoding) (b : List ℕ) (first end from to size : ℕ) (piece : List ℕ) → piece ≡ utf8 (part b (down (width_in e) b from) (down (width_in e) b to))
     → length piece ≡ size → from ≤ to → start (width_in e) b (down (width_in e) b from) ≡ from → start (width_in e) b (down (width_in e) b to) ≡ to
-    → start len_utf8 b (down (width_in e) b from) + size ≡ start len_utf8 b (down (width_in e) b to) → IsPiece e b from to piece
-piece_of e b from to size piece bytes long order boundary end_boundary sum =
+    → start len_utf8 b (down (width_in e) b from) + size ≡ start len_utf8 b (down (width_in e) b to) → IsPiece (part_of e b first end) from to piece
+piece_of e b first end from to size piece bytes long order boundary end_boundary sum =
     record { bytes = bytes; order = order; boundary = boundary; end_boundary = end_boundary; size = omega (arith, long, sum) }
 
 -- the scalar that is passed on the way to a boundary
@@ -62,7 +63,7 @@ passed e b at to next scalar before within boundary end_boundary is ends =
     let w = width_in e in
     let k = down w b at in
     let m = down w b to in
-    let one = passes e b at next _ (omega (arith, before, within)) boundary ends refl in
+    let one = passes e b 0 0 at next _ (omega (arith, before, within)) boundary ends refl in
     let below : k < m = ⊎_elim (λ h. h) (λ (h : m ≤ k). absurd (omega (arith, start-mono w b m k h, boundary, end_boundary, before))) (cases_lt k m) in
     let number : down w b next ≡ suc k = omega (arith, one.number) in
     let step = start-suc len_utf8 b k one.inside in

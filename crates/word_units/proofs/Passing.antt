@@ -6,10 +6,11 @@ use Rattle.text_spec.specs.Views.{width_in, other_width, size_in}
 use Rattle.text_spec.proofs.Walk.{start-suc, start-le, down-next, down-start}
 use Rattle.text_spec.proofs.Widths.{width_some, width_most, other_some, other_most}
 use Rattle.word_units.specs.Walking.{Passes}
+use Rattle.word_units.specs.Parts.{part_of}
 
-pub passes : (e : Encoding) (b : List ℕ) (at next units : ℕ) → at < size_in e b → start (width_in e) b (down (width_in e) b at) ≡ at
-    → next ≡ at + width_in e (get_or b (down (width_in e) b at) 0) → units ≡ other_width e (get_or b (down (width_in e) b at) 0) → Passes e b at next units
-passes e b at next units h is ends takes =
+pub passes : (e : Encoding) (b : List ℕ) (first end at next units : ℕ) → at < size_in e b → start (width_in e) b (down (width_in e) b at) ≡ at
+    → next ≡ at + width_in e (get_or b (down (width_in e) b at) 0) → units ≡ other_width e (get_or b (down (width_in e) b at) 0) → Passes (part_of e b first end) at next units
+passes e b first end at next units h is ends takes =
     let w = width_in e in
     let o = other_width e in
     let k = down w b at in

@@ -15,6 +15,7 @@ use Rattle.word_units.specs.Running.{PassesRun}
 use Rattle.word_units.specs.Walking.{Passes}
 use Rattle.word_units.proofs.Passing.{passes}
 use Rattle.word_units.proofs.Telling.{told8, told16, width-is}
+use Rattle.word_units.specs.Parts.{Part, part_of}
 
 -- ---- the high bits of the bytes of a word
 abbrev mask : ℕ → ℕ
@@ -61,8 +62,8 @@ ascii_byte w none (suc (suc (suc (suc (suc (suc (suc zero))))))) h = omega (arit
 ascii_byte w none (suc (suc (suc (suc (suc (suc (suc (suc j)))))))) h = absurd (omega arith)
 
 -- ---- one scalar
-pub one_run : (e : Encoding) (b : List ℕ) (at most next units : ℕ) → Passes e b at next units → PassesRun e b at most next units 1
-one_run e b at most next units p = record {
+pub one_run : (t : Part) (at most next units : ℕ) → Passes t at next units → PassesRun t at most next units 1
+one_run t at most next units p = record {
   number = p.number;
   boundary = p.boundary;
   other = p.other;
@@ -96,9 +97,9 @@ led_none b at begins = record {
 }
 
 -- one scalar more, which begins in the word too
-pub led_on : (b : List ℕ) (at next units scalars end more : ℕ) → Led b at next units scalars → next / 8 ≡ at / 8
-    → Passes Utf8 b next end more → next + more ≤ end → Led b at end (units + more) (scalars + 1)
-led_on b at next units scalars end more l near p within = record {
+pub led_on : (b : List ℕ) (first last at next units scalars end more : ℕ) → Led b at next units scalars → next / 8 ≡ at / 8
+    → Passes (part_of Utf8 b first last) next end more → next + more ≤ end → Led b at end (units + more) (scalars + 1)
+led_on b first last at next units scalars end more l near p within = record {
   number = omega (arith, p.number, l.number);
   boundary = p.boundary;
   other = omega (arith, p.other, l.other);
@@ -109,11 +110,11 @@ led_on b at next units scalars end more l near p within = record {
   some = λ h. omega arith;
 }
 
-pub led_all : (b : List ℕ) (at most next units scalars : ℕ) → Led b at next units scalars → ¬ (next / 8 ≡ at / 8) → at + most ≤ size_in Utf8 b → 11 ≤ most
-    → PassesRun Utf8 b at most next units scalars
-led_all b at most next units scalars l past fits room =
+pub led_all : (e : Encoding) (b : List ℕ) (first end at most next units scalars : ℕ) → e ≡ Utf8 → Led b at next units scalars → ¬ (next / 8 ≡ at / 8) → at + most ≤ size_in Utf8 b → 11 ≤ most
+    → PassesRun (part_of e b first end) at most next units scalars
+led_all e b first end at most next units scalars is8 l past fits room =
     let ahead : at < next = ⊎_elim (λ h. h) (λ (h : next ≤ at). let same : next ≡ at = omega (arith, l.order, h) in absurd (past (ap (λ n. n / 8) same))) (cases_lt at next) in
-    record {
+    subst (λ x. PassesRun (part_of x b first end) at most next units scalars) (sym is8) (record {
       number = l.number;
       boundary = l.boundary;
       other = l.other;
@@ -121,19 +122,20 @@ led_all b at most next units scalars l past fits room =
       within = omega (arith, l.reach, fits, room);
       some = omega (arith, l.some ahead, l.more);
       size = inr (l.some ahead, l.more, omega (arith, l.few, l.reach, room), omega (arith, l.reach, room));
-    }
+    })
 
-module _ (e : Encoding) (ws : List ℕ) (n : ℕ) (b : List ℕ) (is8 : e ≡ Utf8) (long : n ≡ size_in e b) (denotes : denoted_text e ws n ≡ Some b) where
+module _ (e : Encoding) (ws : List ℕ) (n : ℕ) (b : List ℕ) (first_scalar last_scalar : ℕ) (is8 : e ≡ Utf8) (long : n ≡ size_in e b) (denotes : denoted_text e ws n ≡ Some b) where
   pub lead_passes : (at word lead width units : ℕ) → at < size_in Utf8 b → start len_utf8 b (down len_utf8 b at) ≡ at
       → word ≡ get_or ws (at / 8) 0 → lead ≡ word / 2 ^ (8 * (at % 8)) % 256
       → (lead < 128 → width ≡ 1) → (128 ≤ lead → lead < 224 → width ≡ 2) → (224 ≤ lead → lead < 240 → width ≡ 3) → (240 ≤ lead → width ≡ 4)
-      → ((scalar : ℕ) → width ≡ len_utf8 scalar → units ≡ len_utf16 scalar) → Passes Utf8 b at (at + width) units
+      → ((scalar : ℕ) → width ≡ len_utf8 scalar → units ≡ len_utf16 scalar) → Passes (part_of e b first_scalar last_scalar) at (at + width) units
   lead_passes at word lead width units inside boundary here is one two three four takes =
       let told = told8 e ws n b at is8 long denotes inside boundary in
       let c = get_or b (down len_utf8 b at) 0 in
       let byte : lead ≡ byte_of ws at = is ∙ ap (λ w. w / 2 ^ (8 * (at % 8)) % 256) here in
       let wide : width ≡ len_utf8 c = width-is ws at c lead told.stands byte width one two three four in
-      passes Utf8 b at (at + width) units inside boundary (ap (λ k. at + k) wide) (takes c wide)
+      subst (λ x. Passes (part_of x b first_scalar last_scalar) at (at + width) units) (sym is8)
+          (passes Utf8 b first_scalar last_scalar at (at + width) units inside boundary (ap (λ k. at + k) wide) (takes c wide))
 
   -- ---- eight scalars of ASCII
   module _ (at word : ℕ) (fits : at + 8 ≤ size_in Utf8 b) (first : at % 8 ≡ 0) (here : word ≡ get_or ws (at / 8) 0) (none : bit_and word 0x8080808080808080 ≡ 0)
@@ -161,17 +163,17 @@ module _ (e : Encoding) (ws : List ℕ) (n : ℕ) (b : List ℕ) (is8 : e ≡ Ut
         let one = told.stands.one few in
         let small : c < 65536 = omega (arith, one.1, few) in
         let thin : len_utf16 c ≡ 1 = cond-true _ _ _ (lt-ltb c 65536 small) in
-        let step = passes Utf8 b q p 1 inside before.begins (omega (arith, is, one.0)) (sym thin) in
+        let step = passes Utf8 b first_scalar last_scalar q p 1 inside before.begins (omega (arith, is, one.0)) (sym thin) in
         record {
           number = omega (arith, step.number, before.number);
           begins = step.boundary;
           units = omega (arith, step.other, before.units);
         }
 
-    pub ascii_run : (most : ℕ) → 8 ≤ most → PassesRun Utf8 b at most (at + 8) 8 8
+    pub ascii_run : (most : ℕ) → 8 ≤ most → PassesRun (part_of e b first_scalar last_scalar) at most (at + 8) 8 8
     ascii_run most room =
         let run = run_at 8 (at + 8) (omega arith) refl in
-        record {
+        subst (λ x. PassesRun (part_of x b first_scalar last_scalar) at most (at + 8) 8 8) (sym is8) (record {
           number = run.number;
           boundary = run.begins;
           other = run.units;
@@ -179,10 +181,10 @@ module _ (e : Encoding) (ws : List ℕ) (n : ℕ) (b : List ℕ) (is8 : e ≡ Ut
           within = fits;
           some = omega arith;
           size = inr (omega arith, omega arith, room, omega (arith, room));
-        }
+        })
 
 -- ---- the scalars of a word of UTF-16 that holds no half of a pair
-module _ (e : Encoding) (ws : List ℕ) (n : ℕ) (b : List ℕ) (is16 : e ≡ Utf16) (long : n ≡ size_in e b) (denotes : denoted_text e ws n ≡ Some b) where
+module _ (e : Encoding) (ws : List ℕ) (n : ℕ) (b : List ℕ) (first_scalar last_scalar : ℕ) (is16 : e ≡ Utf16) (long : n ≡ size_in e b) (denotes : denoted_text e ws n ≡ Some b) where
   record PlainTo (at j bytes p : ℕ) : Type 0 where
     pub number : down len_utf16 b p ≡ down len_utf16 b at + j
     pub begins : start len_utf16 b (down len_utf16 b p) ≡ p
@@ -196,7 +198,7 @@ module _ (e : Encoding) (ws : List ℕ) (n : ℕ) (b : List ℕ) (is16 : e ≡ U
       let alone : u ≡ unwrap_or (lone_unit_char u) 0xFFFD =
       ⊎_elim (λ low. sym (ap (λ o. unwrap_or o 0xFFFD) (lone_unit_char_low u low))) (λ high. sym (ap (λ o. unwrap_or o 0xFFFD) (lone_unit_char_high u (plain high)))) (cases_lt u 0xD800) in
       let told = told16 e ws n b q u (get_or us (q + 1) 0) u 1 is16 long denotes inside before.begins here (λ low high. refl) ((λ pair. absurd (none pair)), λ no. (alone, refl)) in
-      let step = passes Utf16 b q p (len_utf8 u) inside before.begins (omega (arith, is, told.1)) (ap len_utf8 told.0) in
+      let step = passes Utf16 b first_scalar last_scalar q p (len_utf8 u) inside before.begins (omega (arith, is, told.1)) (ap len_utf8 told.0) in
       record {
         number = omega (arith, step.number, before.number);
         begins = step.boundary;
@@ -207,7 +209,7 @@ module _ (e : Encoding) (ws : List ℕ) (n : ℕ) (b : List ℕ) (is16 : e ≡ U
       → (0xD800 ≤ word % 65536 → 0xE000 ≤ word % 65536) → (0xD800 ≤ word / 2 ^ 16 % 65536 → 0xE000 ≤ word / 2 ^ 16 % 65536)
       → (0xD800 ≤ word / 2 ^ 32 % 65536 → 0xE000 ≤ word / 2 ^ 32 % 65536) → (0xD800 ≤ word / 2 ^ 48 % 65536 → 0xE000 ≤ word / 2 ^ 48 % 65536)
       → bytes ≡ len_utf8 (word % 65536) + len_utf8 (word / 2 ^ 16 % 65536) + len_utf8 (word / 2 ^ 32 % 65536) + len_utf8 (word / 2 ^ 48 % 65536)
-      → 4 ≤ bytes → bytes ≤ 12 → PassesRun Utf16 b at most (at + 4) bytes 4
+      → 4 ≤ bytes → bytes ≤ 12 → PassesRun (part_of e b first_scalar last_scalar) at most (at + 4) bytes 4
   plain_run at most word bytes fits room first here boundary p0 p1 p2 p3 sum some few =
       let unit = λ (j : ℕ) (u : ℕ) (low : j < 4) (is : u ≡ word / 2 ^ (16 * j) % 65536).
       let place : (at + j) / 4 ≡ at / 4 = omega (arith, first, low) in
@@ -220,7 +222,7 @@ module _ (e : Encoding) (ws : List ℕ) (n : ℕ) (b : List ℕ) (is16 : e ≡ U
       let two_to = plain_on at 1 _ (at + 1) (at + 2) (word / 2 ^ 16 % 65536) one_to (omega (arith, fits, room)) (omega arith) (unit 1 (word / 2 ^ 16 % 65536) (omega arith) refl) p1 in
       let three_to = plain_on at 2 _ (at + 2) (at + 3) (word / 2 ^ 32 % 65536) two_to (omega (arith, fits, room)) (omega arith) (unit 2 (word / 2 ^ 32 % 65536) (omega arith) refl) p2 in
       let four_to = plain_on at 3 _ (at + 3) (at + 4) (word / 2 ^ 48 % 65536) three_to (omega (arith, fits, room)) (omega arith) (unit 3 (word / 2 ^ 48 % 65536) (omega arith) refl) p3 in
-      record {
+      subst (λ x. PassesRun (part_of x b first_scalar last_scalar) at most (at + 4) bytes 4) (sym is16) (record {
         number = omega (arith, four_to.number);
         boundary = four_to.begins;
         other = omega (arith, four_to.bytes_are, sum);
@@ -228,10 +230,11 @@ module _ (e : Encoding) (ws : List ℕ) (n : ℕ) (b : List ℕ) (is16 : e ≡ U
         within = omega (arith, fits, room);
         some = omega (arith, some);
         size = inr (omega arith, some, omega (arith, few, room), omega (arith, room));
-      }
+      })
 
   -- ---- one scalar
   pub code_run : (at most next code width bytes : ℕ) → at < size_in Utf16 b → start len_utf16 b (down len_utf16 b at) ≡ at → code ≡ get_or b (down len_utf16 b at) 0
-      → width ≡ len_utf16 (get_or b (down len_utf16 b at) 0) → bytes ≡ len_utf8 code → next ≡ at + width → PassesRun Utf16 b at most next bytes 1
+      → width ≡ len_utf16 (get_or b (down len_utf16 b at) 0) → bytes ≡ len_utf8 code → next ≡ at + width → PassesRun (part_of e b first_scalar last_scalar) at most next bytes 1
   code_run at most next code width bytes inside boundary is wide takes ends =
-      one_run Utf16 b at most next bytes (passes Utf16 b at next bytes inside boundary (ends ∙ ap (λ k. at + k) wide) (takes ∙ ap len_utf8 is))
+      one_run (part_of e b first_scalar last_scalar) at most next bytes (subst (λ x. Passes (part_of x b first_scalar last_scalar) at next bytes) (sym is16)
+          (passes Utf16 b first_scalar last_scalar at next bytes inside boundary (ends ∙ ap (λ k. at + k) wide) (takes ∙ ap len_utf8 is)))

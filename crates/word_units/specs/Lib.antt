@@ -1,3 +1,5 @@
+use Rattle.word_units.specs.Parts.{Part}
+pub mod Parts
 pub mod Filling
 pub mod Owned
 pub mod Walking

@@ -1,17 +1,17 @@
 -- A walk over a text, one scalar after another.
-use Rattle.std.specs.Prelude.{◌≡◌, ℕ, ◌+◌, ◌<◌, ◌≤◌, List, length}
-use Rattle.text_spec.specs.declared.encoding.Encoding.{Encoding}
-use Rattle.text_spec.specs.Offsets.{start, down}
-use Rattle.text_spec.specs.Views.{width_in, other_width, size_in}
+use Rattle.std.specs.Prelude.{◌≡◌, ℕ, ◌+◌, ◌<◌, ◌≤◌, length}
+use Rattle.text_spec.specs.Offsets.{start}
+use Rattle.text_spec.specs.Views.{other_width}
+use Rattle.word_units.specs.Parts.{Part, IsBoundaryIn, scalars_before, storage_size}
 
 -- the scalar that begins at `at` ends at `next`, and takes `units` code units of the other encoding
-pub record Passes (encoding : Encoding) (whole : List ℕ) (at next units : ℕ) : Type 0 where
-  pub inside : down (width_in encoding) whole at < length whole
-  pub number : down (width_in encoding) whole next ≡ down (width_in encoding) whole at + 1
-  pub boundary : start (width_in encoding) whole (down (width_in encoding) whole next) ≡ next
-  pub other : start (other_width encoding) whole (down (width_in encoding) whole next) ≡ start (other_width encoding) whole (down (width_in encoding) whole at) + units
+pub record Passes (t : Part) (at next units : ℕ) : Type 0 where
+  pub inside : scalars_before t at < length t.whole
+  pub number : scalars_before t next ≡ scalars_before t at + 1
+  pub boundary : IsBoundaryIn t next
+  pub other : start (other_width t.storage) t.whole (scalars_before t next) ≡ start (other_width t.storage) t.whole (scalars_before t at) + units
   pub ahead : at < next
   pub near : next ≤ at + 4
-  pub within : next ≤ size_in encoding whole
+  pub within : next ≤ storage_size t
   pub some : 1 ≤ units
   pub few : units ≤ 4

@@ -1,9 +1,9 @@
 //! Pieces of a text as UTF-8, a bufferful of whole scalars at a time.
 ghost use Rattle.std.specs.Prelude.{◌≡◌, ◌+◌, ◌-◌, ◌*◌, ◌<◌, ◌≤◌, ◌++◌, take, slice_index};
 ghost use Rattle.std.specs.Char.{encode_utf8, len_utf8};
-ghost use Rattle.text_spec.specs.Offsets.{start, down};
-ghost use Rattle.text_spec.specs.Views.{width_in, size_in};
+ghost use Rattle.text_spec.specs.Offsets.{start};
 ghost use Rattle.word_units.specs.Filling.{IsPiece};
+ghost use Rattle.word_units.specs.Parts.{low_of, high_of, storage_size, IsBoundaryIn, scalars_before};
 
 use crate::floor::boundary_at_or_before;
 use crate::scalar::scalar_at;
@@ -33,15 +33,15 @@ fn fill<T: Text, L: Ledger>(
     steps: &mut Steps<L>,
 ) -> (usize, u64)
     requires order { p ≤ to }
-    requires inside { to ≤ size_in (T.storage t.old) (T.whole t.old) }
-    requires boundary { start (width_in (T.storage t.old)) (T.whole t.old) (down (width_in (T.storage t.old)) (T.whole t.old) p) ≡ p }
-    requires end_boundary { start (width_in (T.storage t.old)) (T.whole t.old) (down (width_in (T.storage t.old)) (T.whole t.old) to) ≡ to }
-    ensures piece { IsPiece (T.storage t.old) (T.whole t.old) p result.1 (take result.0 buf.new) }
+    requires inside { to ≤ storage_size (T.part t.old) }
+    requires boundary { IsBoundaryIn (T.part t.old) p }
+    requires end_boundary { IsBoundaryIn (T.part t.old) to }
+    ensures piece { IsPiece (T.part t.old) p result.1 (take result.0 buf.new) }
     ensures fits { result.0 ≤ 64 }
-    ensures size { start len_utf8 (T.whole t.old) (down (width_in (T.storage t.old)) (T.whole t.old) p) + result.0
-        ≡ start len_utf8 (T.whole t.old) (down (width_in (T.storage t.old)) (T.whole t.old) result.1) }
+    ensures size { start len_utf8 (T.part t.old).whole (scalars_before (T.part t.old) p) + result.0
+        ≡ start len_utf8 (T.part t.old).whole (scalars_before (T.part t.old) result.1) }
     ensures within { result.1 ≤ to }
-    ensures most { result.1 < to → 64 < result.0 + len_utf8 (slice_index (T.whole t.old) (down (width_in (T.storage t.old)) (T.whole t.old) result.1)) }
+    ensures most { result.1 < to → 64 < result.0 + len_utf8 (slice_index (T.part t.old).whole (scalars_before (T.part t.old) result.1)) }
     ensures kept { t.new ≡ t.old }
     ensures cost { steps.new ≤ steps.old + 2 * 65 }
 {
@@ -69,18 +69,18 @@ pub fn fill_forward<T: Text, L: Ledger>(
     buf: &mut [u8; 64],
     steps: &mut Steps<L>,
 ) -> (usize, u64)
-    requires low { start (width_in (T.storage t.old)) (T.whole t.old) (T.first t.old) ≤ p }
-    requires high { p ≤ start (width_in (T.storage t.old)) (T.whole t.old) (T.end t.old) }
-    requires boundary { start (width_in (T.storage t.old)) (T.whole t.old) (down (width_in (T.storage t.old)) (T.whole t.old) p) ≡ p }
-    ensures piece { IsPiece (T.storage t.old) (T.whole t.old) p result.1 (take result.0 buf.new) }
+    requires low { low_of (T.part t.old) ≤ p }
+    requires high { p ≤ high_of (T.part t.old) }
+    requires boundary { IsBoundaryIn (T.part t.old) p }
+    ensures piece { IsPiece (T.part t.old) p result.1 (take result.0 buf.new) }
     ensures fits { result.0 ≤ 64 }
-    ensures size { start len_utf8 (T.whole t.old) (down (width_in (T.storage t.old)) (T.whole t.old) p) + result.0
-        ≡ start len_utf8 (T.whole t.old) (down (width_in (T.storage t.old)) (T.whole t.old) result.1) }
-    ensures within { result.1 ≤ start (width_in (T.storage t.old)) (T.whole t.old) (T.end t.old) }
+    ensures size { start len_utf8 (T.part t.old).whole (scalars_before (T.part t.old) p) + result.0
+        ≡ start len_utf8 (T.part t.old).whole (scalars_before (T.part t.old) result.1) }
+    ensures within { result.1 ≤ high_of (T.part t.old) }
 
     // It stops only at the text's end or where the next scalar has no room.
-    ensures most { result.1 < start (width_in (T.storage t.old)) (T.whole t.old) (T.end t.old)
-        → 64 < result.0 + len_utf8 (slice_index (T.whole t.old) (down (width_in (T.storage t.old)) (T.whole t.old) result.1)) }
+    ensures most { result.1 < high_of (T.part t.old)
+        → 64 < result.0 + len_utf8 (slice_index (T.part t.old).whole (scalars_before (T.part t.old) result.1)) }
     ensures kept { t.new ≡ t.old }
     ensures cost { steps.new ≤ steps.old + 2 * 65 }
 {
@@ -92,18 +92,18 @@ pub fn fill_forward<T: Text, L: Ledger>(
 
 /// The boundary before `p` from which on the scalars take at most 64 bytes of UTF-8, the furthest one in the text.
 fn reach_back<T: Text, L: Ledger>(t: &mut T, p: u64, steps: &mut Steps<L>) -> u64
-    requires low { start (width_in (T.storage t.old)) (T.whole t.old) (T.first t.old) ≤ p }
-    requires inside { p ≤ size_in (T.storage t.old) (T.whole t.old) }
-    requires boundary { start (width_in (T.storage t.old)) (T.whole t.old) (down (width_in (T.storage t.old)) (T.whole t.old) p) ≡ p }
-    ensures within { start (width_in (T.storage t.old)) (T.whole t.old) (T.first t.old) ≤ result }
+    requires low { low_of (T.part t.old) ≤ p }
+    requires inside { p ≤ storage_size (T.part t.old) }
+    requires boundary { IsBoundaryIn (T.part t.old) p }
+    ensures within { low_of (T.part t.old) ≤ result }
     ensures order { result ≤ p }
-    ensures boundary { start (width_in (T.storage t.old)) (T.whole t.old) (down (width_in (T.storage t.old)) (T.whole t.old) result) ≡ result }
-    ensures fits { start len_utf8 (T.whole t.old) (down (width_in (T.storage t.old)) (T.whole t.old) p)
-        ≤ start len_utf8 (T.whole t.old) (down (width_in (T.storage t.old)) (T.whole t.old) result) + 64 }
-    ensures most { start (width_in (T.storage t.old)) (T.whole t.old) (T.first t.old) < result
-        → start len_utf8 (T.whole t.old) (down (width_in (T.storage t.old)) (T.whole t.old) result) + 64
-        < start len_utf8 (T.whole t.old) (down (width_in (T.storage t.old)) (T.whole t.old) p)
-        + len_utf8 (slice_index (T.whole t.old) (down (width_in (T.storage t.old)) (T.whole t.old) result - 1)) }
+    ensures boundary { IsBoundaryIn (T.part t.old) result }
+    ensures fits { start len_utf8 (T.part t.old).whole (scalars_before (T.part t.old) p)
+        ≤ start len_utf8 (T.part t.old).whole (scalars_before (T.part t.old) result) + 64 }
+    ensures most { low_of (T.part t.old) < result
+        → start len_utf8 (T.part t.old).whole (scalars_before (T.part t.old) result) + 64
+        < start len_utf8 (T.part t.old).whole (scalars_before (T.part t.old) p)
+        + len_utf8 (slice_index (T.part t.old).whole (scalars_before (T.part t.old) result - 1)) }
     ensures kept { t.new ≡ t.old }
     ensures cost { steps.new ≤ steps.old + 4 * 65 }
 {
@@ -134,18 +134,18 @@ pub fn fill_backward<T: Text, L: Ledger>(
     buf: &mut [u8; 64],
     steps: &mut Steps<L>,
 ) -> (usize, u64)
-    requires low { start (width_in (T.storage t.old)) (T.whole t.old) (T.first t.old) ≤ p }
-    requires high { p ≤ start (width_in (T.storage t.old)) (T.whole t.old) (T.end t.old) }
-    requires boundary { start (width_in (T.storage t.old)) (T.whole t.old) (down (width_in (T.storage t.old)) (T.whole t.old) p) ≡ p }
-    ensures piece { IsPiece (T.storage t.old) (T.whole t.old) result.1 p (take result.0 buf.new) }
+    requires low { low_of (T.part t.old) ≤ p }
+    requires high { p ≤ high_of (T.part t.old) }
+    requires boundary { IsBoundaryIn (T.part t.old) p }
+    ensures piece { IsPiece (T.part t.old) result.1 p (take result.0 buf.new) }
     ensures fits { result.0 ≤ 64 }
-    ensures size { start len_utf8 (T.whole t.old) (down (width_in (T.storage t.old)) (T.whole t.old) result.1) + result.0
-        ≡ start len_utf8 (T.whole t.old) (down (width_in (T.storage t.old)) (T.whole t.old) p) }
-    ensures within { start (width_in (T.storage t.old)) (T.whole t.old) (T.first t.old) ≤ result.1 }
+    ensures size { start len_utf8 (T.part t.old).whole (scalars_before (T.part t.old) result.1) + result.0
+        ≡ start len_utf8 (T.part t.old).whole (scalars_before (T.part t.old) p) }
+    ensures within { low_of (T.part t.old) ≤ result.1 }
 
     // It stops only at the text's start or where the scalar before has no room.
-    ensures most { start (width_in (T.storage t.old)) (T.whole t.old) (T.first t.old) < result.1
-        → 64 < result.0 + len_utf8 (slice_index (T.whole t.old) (down (width_in (T.storage t.old)) (T.whole t.old) result.1 - 1)) }
+    ensures most { low_of (T.part t.old) < result.1
+        → 64 < result.0 + len_utf8 (slice_index (T.part t.old).whole (scalars_before (T.part t.old) result.1 - 1)) }
     ensures kept { t.new ≡ t.old }
     ensures cost { steps.new ≤ steps.old + 6 * 65 }
 {

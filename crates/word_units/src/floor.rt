@@ -3,6 +3,7 @@ ghost use Rattle.std.specs.Char.{len_utf8};
 ghost use Rattle.text_spec.specs.declared.encoding.Encoding.TheVariants.{Utf8, Utf16};
 ghost use Rattle.text_spec.specs.Offsets.{len_utf16, start, down};
 ghost use Rattle.text_spec.specs.Views.{width_in, size_in};
+ghost use Rattle.word_units.specs.Parts.{storage_size, scalars_before};
 
 use crate::packing::{byte_in, is_pair, unit_in};
 use crate::reading::other_half;
@@ -20,9 +21,9 @@ fn is_continuation(byte: u8) -> bool
 
 /// The greatest scalar boundary not after byte `p`, which is below the end.
 fn floor8<T: Text, L: Ledger>(t: &mut T, p: u64, steps: &mut Steps<L>) -> u64
-    requires encoding { T.storage t.old ≡ Utf8 }
-    requires inside { p < size_in Utf8 (T.whole t.old) }
-    ensures value { result ≡ start len_utf8 (T.whole t.old) (down len_utf8 (T.whole t.old) p) }
+    requires encoding { (T.part t.old).storage ≡ Utf8 }
+    requires inside { p < size_in Utf8 (T.part t.old).whole }
+    ensures value { result ≡ start len_utf8 (T.part t.old).whole (down len_utf8 (T.part t.old).whole p) }
     ensures kept { t.new ≡ t.old }
     ensures cost { steps.new ≤ steps.old + 2 }
 {
@@ -40,9 +41,9 @@ fn floor8<T: Text, L: Ledger>(t: &mut T, p: u64, steps: &mut Steps<L>) -> u64
 
 /// The greatest scalar boundary not after unit `p`, which is below the end.
 fn floor16<T: Text, L: Ledger>(t: &mut T, p: u64, steps: &mut Steps<L>) -> u64
-    requires encoding { T.storage t.old ≡ Utf16 }
-    requires inside { p < size_in Utf16 (T.whole t.old) }
-    ensures value { result ≡ start len_utf16 (T.whole t.old) (down len_utf16 (T.whole t.old) p) }
+    requires encoding { (T.part t.old).storage ≡ Utf16 }
+    requires inside { p < size_in Utf16 (T.part t.old).whole }
+    ensures value { result ≡ start len_utf16 (T.part t.old).whole (down len_utf16 (T.part t.old).whole p) }
     ensures kept { t.new ≡ t.old }
     ensures cost { steps.new ≤ steps.old + 2 }
 {
@@ -57,8 +58,8 @@ fn floor16<T: Text, L: Ledger>(t: &mut T, p: u64, steps: &mut Steps<L>) -> u64
 ///
 /// `p` is at most the storage's number of code units. At most two words are read.
 pub fn boundary_at_or_before<T: Text, L: Ledger>(t: &mut T, p: u64, steps: &mut Steps<L>) -> u64
-    requires inside { p ≤ size_in (T.storage t.old) (T.whole t.old) }
-    ensures value { result ≡ start (width_in (T.storage t.old)) (T.whole t.old) (down (width_in (T.storage t.old)) (T.whole t.old) p) }
+    requires inside { p ≤ storage_size (T.part t.old) }
+    ensures value { result ≡ start (width_in (T.part t.old).storage) (T.part t.old).whole (scalars_before (T.part t.old) p) }
     ensures kept { t.new ≡ t.old }
     ensures cost { steps.new ≤ steps.old + 2 }
 {

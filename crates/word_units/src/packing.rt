@@ -4,7 +4,7 @@ ghost use Rattle.std.specs.Char.{len_utf8};
 ghost use Rattle.std.specs.Option.{unwrap_or};
 ghost use Rattle.std.specs.Char.Utf16.{lone_unit_char, surrogate_pair_char};
 ghost use Rattle.text_spec.specs.Offsets.{len_utf16};
-ghost use Rattle.text_spec.specs.Packed.{byte_of, unit_of, IsPair};
+ghost use Rattle.text_spec.specs.Packed.{byte_of, IsPair};
 
 /// The byte at place `p` of the text, out of the word that holds it.
 pub(crate) fn byte_in(word: u64, p: u64) -> u8

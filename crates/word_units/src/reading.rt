@@ -1,8 +1,9 @@
-ghost use Rattle.std.specs.Prelude.{◌≡◌, ◌+◌, ◌-◌, ◌*◌, ◌/◌, ◌%◌, ◌^◌, ◌<◌, ◌≤◌, length, slice_index};
+ghost use Rattle.std.specs.Prelude.{◌≡◌, ◌+◌, ◌-◌, ◌/◌, ◌^◌, ◌<◌, ◌≤◌, slice_index};
 ghost use Rattle.text_spec.specs.declared.encoding.Encoding.TheVariants.{Utf8, Utf16};
-ghost use Rattle.text_spec.specs.Packed.{byte_of, unit_of, units_of, content_words};
+ghost use Rattle.text_spec.specs.Packed.{unit_of, units_of, content_words};
 ghost use Rattle.text_spec.specs.Text.{utf8, utf16};
 ghost use Rattle.text_spec.specs.Views.{size_in};
+ghost use Rattle.word_units.specs.Parts.{storage_size};
 
 use crate::packing::{byte_in, is_high_half, is_low_half, repaired_unit, unit_in};
 use crate::steps::Steps;
@@ -11,9 +12,9 @@ use std::sync::ledger::Ledger;
 
 /// Byte `p` of a text in UTF-8 storage. `p` is below the storage's number of bytes. One word is read.
 pub fn byte_at<T: Text, L: Ledger>(t: &mut T, p: u64, steps: &mut Steps<L>) -> u8
-    requires encoding { T.storage t.old ≡ Utf8 }
-    requires inside { p < size_in Utf8 (T.whole t.old) }
-    ensures value { result ≡ slice_index (utf8 (T.whole t.old)) p }
+    requires encoding { (T.part t.old).storage ≡ Utf8 }
+    requires inside { p < size_in Utf8 (T.part t.old).whole }
+    ensures value { result ≡ slice_index (utf8 (T.part t.old).whole) p }
     ensures kept { t.new ≡ t.old }
     ensures cost { steps.new ≡ steps.old + 1 }
 {
@@ -30,7 +31,7 @@ pub(crate) fn byte_word_behind<T: Text, L: Ledger>(
     q: u64,
     steps: &mut Steps<L>,
 ) -> u64
-    requires inside { q / 8 < content_words (T.storage t.old) (size_in (T.storage t.old) (T.whole t.old)) }
+    requires inside { q / 8 < content_words (T.part t.old).storage (storage_size (T.part t.old)) }
     requires near { near ≡ slice_index (T.words t.old) (p / 8) }
     ensures value { result ≡ slice_index (T.words t.old) (q / 8) }
     ensures kept { t.new ≡ t.old }
@@ -46,8 +47,8 @@ pub(crate) fn byte_word_behind<T: Text, L: Ledger>(
 
 /// Unit `p` as the storage holds it, unpaired or not. One word is read.
 pub(crate) fn raw_unit_at<T: Text, L: Ledger>(t: &mut T, p: u64, steps: &mut Steps<L>) -> u16
-    requires encoding { T.storage t.old ≡ Utf16 }
-    requires inside { p < size_in Utf16 (T.whole t.old) }
+    requires encoding { (T.part t.old).storage ≡ Utf16 }
+    requires inside { p < size_in Utf16 (T.part t.old).whole }
     ensures value { result ≡ unit_of (T.words t.old) p }
     ensures kept { t.new ≡ t.old }
     ensures cost { steps.new ≡ steps.old + 1 }
@@ -64,9 +65,9 @@ fn raw_unit_or_zero<T: Text, L: Ledger>(
     q: u64,
     steps: &mut Steps<L>,
 ) -> u16
-    requires encoding { T.storage t.old ≡ Utf16 }
+    requires encoding { (T.part t.old).storage ≡ Utf16 }
     requires near { near ≡ slice_index (T.words t.old) (p / 4) }
-    ensures value { result ≡ slice_index (units_of (T.words t.old) (size_in Utf16 (T.whole t.old))) q }
+    ensures value { result ≡ slice_index (units_of (T.words t.old) (size_in Utf16 (T.part t.old).whole)) q }
     ensures kept { t.new ≡ t.old }
     ensures cost { steps.new ≤ steps.old + 1 }
     ensures counted { steps.old ≤ steps.new }
@@ -90,11 +91,11 @@ pub(crate) fn other_half<T: Text, L: Ledger>(
     p: u64,
     steps: &mut Steps<L>,
 ) -> u16
-    requires encoding { T.storage t.old ≡ Utf16 }
+    requires encoding { (T.part t.old).storage ≡ Utf16 }
     requires small { p < 2 ^ 48 }
     requires near { near ≡ slice_index (T.words t.old) (p / 4) }
-    ensures next { 0xD800 ≤ unit → unit < 0xDC00 → result ≡ slice_index (units_of (T.words t.old) (size_in Utf16 (T.whole t.old))) (p + 1) }
-    ensures before { 0xDC00 ≤ unit → unit < 0xE000 → 0 < p → result ≡ slice_index (units_of (T.words t.old) (size_in Utf16 (T.whole t.old))) (p - 1) }
+    ensures next { 0xD800 ≤ unit → unit < 0xDC00 → result ≡ slice_index (units_of (T.words t.old) (size_in Utf16 (T.part t.old).whole)) (p + 1) }
+    ensures before { 0xDC00 ≤ unit → unit < 0xE000 → 0 < p → result ≡ slice_index (units_of (T.words t.old) (size_in Utf16 (T.part t.old).whole)) (p - 1) }
     ensures none { 0xDC00 ≤ unit → unit < 0xE000 → p ≡ 0 → result ≡ 0 }
     ensures kept { t.new ≡ t.old }
     ensures cost { steps.new ≤ steps.old + 1 }
@@ -113,9 +114,9 @@ pub(crate) fn other_half<T: Text, L: Ledger>(
 ///
 /// `p` is below the storage's number of units. At most two words are read.
 pub fn unit_at<T: Text, L: Ledger>(t: &mut T, p: u64, steps: &mut Steps<L>) -> u16
-    requires encoding { T.storage t.old ≡ Utf16 }
-    requires inside { p < size_in Utf16 (T.whole t.old) }
-    ensures value { result ≡ slice_index (utf16 (T.whole t.old)) p }
+    requires encoding { (T.part t.old).storage ≡ Utf16 }
+    requires inside { p < size_in Utf16 (T.part t.old).whole }
+    ensures value { result ≡ slice_index (utf16 (T.part t.old).whole) p }
     ensures kept { t.new ≡ t.old }
     ensures cost { steps.new ≤ steps.old + 2 }
 {

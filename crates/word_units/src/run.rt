@@ -1,9 +1,11 @@
 ghost use Rattle.std.specs.Prelude.{◌≡◌, ◌+◌, ◌/◌, ◌<◌, ◌≤◌, slice_index};
 ghost use Rattle.std.specs.Char.{len_utf8};
 ghost use Rattle.text_spec.specs.declared.encoding.Encoding.TheVariants.{Utf8, Utf16};
-ghost use Rattle.text_spec.specs.Offsets.{len_utf16, start, down};
-ghost use Rattle.text_spec.specs.Views.{width_in, size_in};
+ghost use Rattle.text_spec.specs.Offsets.{len_utf16};
+ghost use Rattle.text_spec.specs.Views.{size_in};
+ghost use Rattle.text_spec.specs.Boundaries.{IsScalarBoundary};
 ghost use Rattle.word_units.specs.Running.{PassesRun};
+ghost use Rattle.word_units.specs.Parts.{storage_size, IsBoundaryIn};
 
 use crate::packing::{bytes_of_code, bytes_of_units, has_no_half};
 use crate::scalar::code16_beside;
@@ -25,12 +27,12 @@ const WORD_BYTES: u64 = 12;
 /// The scalars that begin in a word of UTF-8 from the boundary `at` on: where the last ends, how many code units of UTF-16 they take, and
 /// how many they are. `word` is the word of `at`.
 fn pass_leads<T: Text>(t: &T, word: u64, at: u64, most: u64) -> (u64, u64, u64)
-    requires encoding { T.storage t.now ≡ Utf8 }
+    requires encoding { (T.part t.now).storage ≡ Utf8 }
     requires room { REACH ≤ most }
-    requires fits { at + most ≤ size_in Utf8 (T.whole t.now) }
-    requires boundary { start len_utf8 (T.whole t.now) (down len_utf8 (T.whole t.now) at) ≡ at }
+    requires fits { at + most ≤ size_in Utf8 (T.part t.now).whole }
+    requires boundary { IsScalarBoundary len_utf8 (T.part t.now).whole at }
     requires here { word ≡ slice_index (T.words t.now) (at / 8) }
-    ensures { PassesRun Utf8 (T.whole t.now) at most result.0 result.1 result.2 }
+    ensures { PassesRun (T.part t.now) at most result.0 result.1 result.2 }
 {
     let _count = t.count();
     let mut next = at;
@@ -52,11 +54,11 @@ fn pass_bytes<T: Text, L: Ledger>(
     most: u64,
     steps: &mut Steps<L>,
 ) -> (u64, u64, u64)
-    requires encoding { T.storage t.old ≡ Utf8 }
-    requires inside { at < size_in Utf8 (T.whole t.old) }
-    requires fits { at + most ≤ size_in Utf8 (T.whole t.old) }
-    requires boundary { start len_utf8 (T.whole t.old) (down len_utf8 (T.whole t.old) at) ≡ at }
-    ensures passes { PassesRun Utf8 (T.whole t.old) at most result.0 result.1 result.2 }
+    requires encoding { (T.part t.old).storage ≡ Utf8 }
+    requires inside { at < size_in Utf8 (T.part t.old).whole }
+    requires fits { at + most ≤ size_in Utf8 (T.part t.old).whole }
+    requires boundary { IsScalarBoundary len_utf8 (T.part t.old).whole at }
+    ensures passes { PassesRun (T.part t.old) at most result.0 result.1 result.2 }
     ensures kept { t.new ≡ t.old }
     ensures cost { steps.new ≡ steps.old + 1 }
 {
@@ -79,11 +81,11 @@ fn pass_units<T: Text, L: Ledger>(
     most: u64,
     steps: &mut Steps<L>,
 ) -> (u64, u64, u64)
-    requires encoding { T.storage t.old ≡ Utf16 }
-    requires inside { at < size_in Utf16 (T.whole t.old) }
-    requires fits { at + most ≤ size_in Utf16 (T.whole t.old) }
-    requires boundary { start len_utf16 (T.whole t.old) (down len_utf16 (T.whole t.old) at) ≡ at }
-    ensures passes { PassesRun Utf16 (T.whole t.old) at most result.0 result.1 result.2 }
+    requires encoding { (T.part t.old).storage ≡ Utf16 }
+    requires inside { at < size_in Utf16 (T.part t.old).whole }
+    requires fits { at + most ≤ size_in Utf16 (T.part t.old).whole }
+    requires boundary { IsScalarBoundary len_utf16 (T.part t.old).whole at }
+    ensures passes { PassesRun (T.part t.old) at most result.0 result.1 result.2 }
     ensures kept { t.new ≡ t.old }
     ensures cost { steps.new ≤ steps.old + 2 }
     ensures counted { steps.old < steps.new }
@@ -108,14 +110,14 @@ pub fn pass_run<T: Text, L: Ledger>(
     most: u64,
     steps: &mut Steps<L>,
 ) -> (u64, u64, u64)
-    requires inside { at < size_in (T.storage t.old) (T.whole t.old) }
-    requires fits { at + most ≤ size_in (T.storage t.old) (T.whole t.old) }
-    requires boundary { start (width_in (T.storage t.old)) (T.whole t.old) (down (width_in (T.storage t.old)) (T.whole t.old) at) ≡ at }
-    ensures passes { PassesRun (T.storage t.old) (T.whole t.old) at most result.0 result.1 result.2 }
+    requires inside { at < storage_size (T.part t.old) }
+    requires fits { at + most ≤ storage_size (T.part t.old) }
+    requires boundary { IsBoundaryIn (T.part t.old) at }
+    ensures passes { PassesRun (T.part t.old) at most result.0 result.1 result.2 }
     ensures kept { t.new ≡ t.old }
     ensures cost { steps.new ≤ steps.old + 2 }
     ensures counted { steps.old < steps.new }
-    ensures bytes { T.storage t.old ≡ Utf8 → steps.new ≡ steps.old + 1 }
+    ensures bytes { (T.part t.old).storage ≡ Utf8 → steps.new ≡ steps.old + 1 }
 {
     match t.encoding() {
         Encoding::Utf8 => pass_bytes(t, at, most, steps),

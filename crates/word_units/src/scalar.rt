@@ -1,8 +1,10 @@
 ghost use Rattle.std.specs.Prelude.{◌≡◌, ◌+◌, ◌/◌, ◌<◌, ◌≤◌, slice_index};
 ghost use Rattle.std.specs.Char.{len_utf8, IsScalar};
 ghost use Rattle.text_spec.specs.declared.encoding.Encoding.TheVariants.{Utf8, Utf16};
-ghost use Rattle.text_spec.specs.Offsets.{len_utf16, start, down};
+ghost use Rattle.text_spec.specs.Offsets.{len_utf16, down};
 ghost use Rattle.text_spec.specs.Views.{width_in, size_in};
+ghost use Rattle.text_spec.specs.Boundaries.{IsScalarBoundary};
+ghost use Rattle.word_units.specs.Parts.{storage_size, IsBoundaryIn, scalars_before};
 
 use crate::packing::{byte_in, byte_of_two, code_of_bytes, code_of_units, unit_in, width_of_lead};
 use crate::reading::{byte_word_behind, other_half};
@@ -13,11 +15,11 @@ use text_spec::Encoding;
 
 /// The code of the scalar that begins at byte `p`, and how many bytes it takes.
 fn code8_at<T: Text, L: Ledger>(t: &mut T, p: u64, steps: &mut Steps<L>) -> (u32, u32)
-    requires encoding { T.storage t.old ≡ Utf8 }
-    requires inside { p < size_in Utf8 (T.whole t.old) }
-    requires boundary { start len_utf8 (T.whole t.old) (down len_utf8 (T.whole t.old) p) ≡ p }
-    ensures code { result.0 ≡ slice_index (T.whole t.old) (down len_utf8 (T.whole t.old) p) }
-    ensures width { result.1 ≡ len_utf8 (slice_index (T.whole t.old) (down len_utf8 (T.whole t.old) p)) }
+    requires encoding { (T.part t.old).storage ≡ Utf8 }
+    requires inside { p < size_in Utf8 (T.part t.old).whole }
+    requires boundary { IsScalarBoundary len_utf8 (T.part t.old).whole p }
+    ensures code { result.0 ≡ slice_index (T.part t.old).whole (down len_utf8 (T.part t.old).whole p) }
+    ensures width { result.1 ≡ len_utf8 (slice_index (T.part t.old).whole (down len_utf8 (T.part t.old).whole p)) }
     ensures scalar { IsScalar result.0 }
     ensures kept { t.new ≡ t.old }
     ensures cost { steps.new ≤ steps.old + 2 }
@@ -42,12 +44,12 @@ pub(crate) fn code16_beside<T: Text, L: Ledger>(
     p: u64,
     steps: &mut Steps<L>,
 ) -> (u32, u32)
-    requires encoding { T.storage t.old ≡ Utf16 }
-    requires inside { p < size_in Utf16 (T.whole t.old) }
-    requires boundary { start len_utf16 (T.whole t.old) (down len_utf16 (T.whole t.old) p) ≡ p }
+    requires encoding { (T.part t.old).storage ≡ Utf16 }
+    requires inside { p < size_in Utf16 (T.part t.old).whole }
+    requires boundary { IsScalarBoundary len_utf16 (T.part t.old).whole p }
     requires here { word ≡ slice_index (T.words t.old) (p / 4) }
-    ensures code { result.0 ≡ slice_index (T.whole t.old) (down len_utf16 (T.whole t.old) p) }
-    ensures width { result.1 ≡ len_utf16 (slice_index (T.whole t.old) (down len_utf16 (T.whole t.old) p)) }
+    ensures code { result.0 ≡ slice_index (T.part t.old).whole (down len_utf16 (T.part t.old).whole p) }
+    ensures width { result.1 ≡ len_utf16 (slice_index (T.part t.old).whole (down len_utf16 (T.part t.old).whole p)) }
     ensures scalar { IsScalar result.0 }
     ensures kept { t.new ≡ t.old }
     ensures cost { steps.new ≤ steps.old + 1 }
@@ -61,11 +63,11 @@ pub(crate) fn code16_beside<T: Text, L: Ledger>(
 
 /// The code of the scalar that begins at unit `p`, and how many units it takes.
 fn code16_at<T: Text, L: Ledger>(t: &mut T, p: u64, steps: &mut Steps<L>) -> (u32, u32)
-    requires encoding { T.storage t.old ≡ Utf16 }
-    requires inside { p < size_in Utf16 (T.whole t.old) }
-    requires boundary { start len_utf16 (T.whole t.old) (down len_utf16 (T.whole t.old) p) ≡ p }
-    ensures code { result.0 ≡ slice_index (T.whole t.old) (down len_utf16 (T.whole t.old) p) }
-    ensures width { result.1 ≡ len_utf16 (slice_index (T.whole t.old) (down len_utf16 (T.whole t.old) p)) }
+    requires encoding { (T.part t.old).storage ≡ Utf16 }
+    requires inside { p < size_in Utf16 (T.part t.old).whole }
+    requires boundary { IsScalarBoundary len_utf16 (T.part t.old).whole p }
+    ensures code { result.0 ≡ slice_index (T.part t.old).whole (down len_utf16 (T.part t.old).whole p) }
+    ensures width { result.1 ≡ len_utf16 (slice_index (T.part t.old).whole (down len_utf16 (T.part t.old).whole p)) }
     ensures scalar { IsScalar result.0 }
     ensures kept { t.new ≡ t.old }
     ensures cost { steps.new ≤ steps.old + 2 }
@@ -78,10 +80,10 @@ fn code16_at<T: Text, L: Ledger>(t: &mut T, p: u64, steps: &mut Steps<L>) -> (u3
 
 /// The code of the scalar that begins at `p`, and how many code units of the storage it takes.
 fn code_at<T: Text, L: Ledger>(t: &mut T, p: u64, steps: &mut Steps<L>) -> (u32, u32)
-    requires inside { p < size_in (T.storage t.old) (T.whole t.old) }
-    requires boundary { start (width_in (T.storage t.old)) (T.whole t.old) (down (width_in (T.storage t.old)) (T.whole t.old) p) ≡ p }
-    ensures code { result.0 ≡ slice_index (T.whole t.old) (down (width_in (T.storage t.old)) (T.whole t.old) p) }
-    ensures width { result.1 ≡ width_in (T.storage t.old) (slice_index (T.whole t.old) (down (width_in (T.storage t.old)) (T.whole t.old) p)) }
+    requires inside { p < storage_size (T.part t.old) }
+    requires boundary { IsBoundaryIn (T.part t.old) p }
+    ensures code { result.0 ≡ slice_index (T.part t.old).whole (scalars_before (T.part t.old) p) }
+    ensures width { result.1 ≡ width_in (T.part t.old).storage (slice_index (T.part t.old).whole (scalars_before (T.part t.old) p)) }
     ensures scalar { IsScalar result.0 }
     ensures kept { t.new ≡ t.old }
     ensures cost { steps.new ≤ steps.old + 2 }
@@ -97,10 +99,10 @@ fn code_at<T: Text, L: Ledger>(t: &mut T, p: u64, steps: &mut Steps<L>) -> (u32,
 ///
 /// `p` is a scalar boundary of the storage below its end, in code units. One or two words are read.
 pub fn scalar_at<T: Text, L: Ledger>(t: &mut T, p: u64, steps: &mut Steps<L>) -> (char, u32)
-    requires inside { p < size_in (T.storage t.old) (T.whole t.old) }
-    requires boundary { start (width_in (T.storage t.old)) (T.whole t.old) (down (width_in (T.storage t.old)) (T.whole t.old) p) ≡ p }
-    ensures scalar { result.0 ≡ slice_index (T.whole t.old) (down (width_in (T.storage t.old)) (T.whole t.old) p) }
-    ensures width { result.1 ≡ width_in (T.storage t.old) (slice_index (T.whole t.old) (down (width_in (T.storage t.old)) (T.whole t.old) p)) }
+    requires inside { p < storage_size (T.part t.old) }
+    requires boundary { IsBoundaryIn (T.part t.old) p }
+    ensures scalar { result.0 ≡ slice_index (T.part t.old).whole (scalars_before (T.part t.old) p) }
+    ensures width { result.1 ≡ width_in (T.part t.old).storage (slice_index (T.part t.old).whole (scalars_before (T.part t.old) p)) }
     ensures kept { t.new ≡ t.old }
     ensures cost { steps.new ≤ steps.old + 2 }
     ensures counted { steps.old < steps.new }

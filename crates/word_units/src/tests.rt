@@ -82,7 +82,7 @@ fn bytes_read<T: Text, L: Ledger>(
     t: &mut T,
     steps: &mut Steps<L>,
 ) -> Result<Vec<u16>, OutOfMemory>
-    requires { T.storage t.old ≡ Utf8 }
+    requires { (T.part t.old).storage ≡ Utf8 }
 {
     let mut bytes = Vec::new(alloc);
     let end = t.count();
@@ -98,7 +98,7 @@ fn units_read<T: Text, L: Ledger>(
     t: &mut T,
     steps: &mut Steps<L>,
 ) -> Result<Vec<u16>, OutOfMemory>
-    requires { T.storage t.old ≡ Utf16 }
+    requires { (T.part t.old).storage ≡ Utf16 }
 {
     let mut units = Vec::new(alloc);
     let end = t.count();

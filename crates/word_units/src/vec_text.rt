@@ -4,6 +4,7 @@ ghost use Rattle.text_spec.specs.Packed.{denoted_text};
 ghost use Rattle.text_spec.specs.Text.{repair};
 ghost use Rattle.word_units.specs.Owned.{text_of};
 ghost use Rattle.word_units.specs.Packing.{byte_words, unit_words};
+ghost use Rattle.word_units.specs.Parts.{all_of};
 
 use crate::content_words::{byte_word, unit_word};
 use crate::steps::Steps;
@@ -88,18 +89,13 @@ impl VecText {
 }
 
 impl Text for VecText {
-    ghost use Rattle.std.specs.Prelude.{false, length};
+    ghost use Rattle.std.specs.Prelude.{false};
     ghost use Rattle.word_units.specs.Owned.{text_of};
+    ghost use Rattle.word_units.specs.Parts.{all_of};
 
-    ghost storage = { λ t. t.1 };
+    ghost part = { λ t. all_of (t.1) (text_of t) };
 
     ghost words = { λ t. t.0 };
-
-    ghost whole = { text_of };
-
-    ghost first = { λ t. 0 };
-
-    ghost end = { λ t. length (text_of t) };
 
     ghost knows_crumbs = { λ t. false };
 

@@ -1,9 +1,10 @@
 ghost use Rattle.std.specs.Prelude.{◌≡◌, ◌+◌, ◌/◌, ◌<◌, ◌≤◌, slice_index};
 ghost use Rattle.std.specs.Char.{len_utf8};
 ghost use Rattle.text_spec.specs.declared.encoding.Encoding.TheVariants.{Utf8};
-ghost use Rattle.text_spec.specs.Offsets.{start, down};
-ghost use Rattle.text_spec.specs.Views.{width_in, other_width, size_in};
+ghost use Rattle.text_spec.specs.Views.{other_width, size_in};
+ghost use Rattle.text_spec.specs.Boundaries.{IsScalarBoundary};
 ghost use Rattle.word_units.specs.Walking.{Passes};
+ghost use Rattle.word_units.specs.Parts.{storage_size, IsBoundaryIn};
 
 use crate::packing::{byte_in, units_of_width, width_of_lead};
 use crate::scalar::scalar_at;
@@ -26,9 +27,9 @@ fn other_len(encoding: Encoding, scalar: char) -> u32
 ///
 /// `at` is a scalar boundary of the storage below its end, in code units. One or two words are read.
 pub fn pass_scalar<T: Text, L: Ledger>(t: &mut T, at: u64, steps: &mut Steps<L>) -> (u64, u64)
-    requires inside { at < size_in (T.storage t.old) (T.whole t.old) }
-    requires boundary { start (width_in (T.storage t.old)) (T.whole t.old) (down (width_in (T.storage t.old)) (T.whole t.old) at) ≡ at }
-    ensures passes { Passes (T.storage t.old) (T.whole t.old) at result.0 result.1 }
+    requires inside { at < storage_size (T.part t.old) }
+    requires boundary { IsBoundaryIn (T.part t.old) at }
+    ensures passes { Passes (T.part t.old) at result.0 result.1 }
     ensures kept { t.new ≡ t.old }
     ensures cost { steps.new ≤ steps.old + 2 }
     ensures counted { steps.old < steps.new }
@@ -44,11 +45,11 @@ pub fn pass_scalar<T: Text, L: Ledger>(t: &mut T, at: u64, steps: &mut Steps<L>)
 /// The storage is UTF-8, `at` is a scalar boundary of it below its end, and `word` is the content word that holds byte `at`. That byte
 /// tells both (The Unicode Standard, table 3-6), so no word is read.
 pub fn pass_lead<T: Text>(t: &T, word: u64, at: u64) -> (u64, u64)
-    requires encoding { T.storage t.now ≡ Utf8 }
-    requires inside { at < size_in Utf8 (T.whole t.now) }
-    requires boundary { start len_utf8 (T.whole t.now) (down len_utf8 (T.whole t.now) at) ≡ at }
+    requires encoding { (T.part t.now).storage ≡ Utf8 }
+    requires inside { at < size_in Utf8 (T.part t.now).whole }
+    requires boundary { IsScalarBoundary len_utf8 (T.part t.now).whole at }
     requires here { word ≡ slice_index (T.words t.now) (at / 8) }
-    ensures passes { Passes Utf8 (T.whole t.now) at result.0 result.1 }
+    ensures passes { Passes (T.part t.now) at result.0 result.1 }
     ensures few { at + result.1 ≤ result.0 }
 {
     let _count = t.count();

@@ -1,5 +1,5 @@
 use Rattle.std.proofs.Common.{◌≡◌, refl, ap, ◌∙◌, ◌+◌, ◌-◌, ◌*◌, ◌/◌, ◌<◌, ◌≤◌, arith, subst}
-use Rattle.text_spec.specs.Crumbs.{index16}
+use Rattle.index_words.specs.Crumbs.{index16}
 use Rattle.index_words.specs.Fields.{place_of}
 use Rattle.crumbs.proofs.Crumbing.{index16-zero, halved, kept_half, none_left, le_told, gt_told}
 use Rattle.crumbs.proofs.asking.last_before.Goals as goal

@@ -1,5 +1,5 @@
 use Rattle.std.proofs.Common.{◌≡◌, ◌+◌, ◌-◌, ◌*◌, ◌^◌, ◌<◌, ◌≤◌, ℕ}
-use Rattle.text_spec.specs.Crumbs.{index16}
+use Rattle.index_words.specs.Crumbs.{index16}
 use Rattle.index_words.specs.Fields.{place_of}
 use Rattle.crumbs.proofs.asking.last_before.Given as goal
 

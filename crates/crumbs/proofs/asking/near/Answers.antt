@@ -1,5 +1,5 @@
 use Rattle.std.proofs.Common.{◌≡◌, refl, sym, ap, subst, ◌∙◌, ◌+◌, ◌*◌, ◌/◌, ◌<◌, ◌≤◌, arith}
-use Rattle.text_spec.specs.Crumbs.{size16, index16}
+use Rattle.index_words.specs.Crumbs.{size16, index16}
 use Rattle.index_words.specs.Fields.{place_of}
 use Rattle.crumbs.specs.Searching.{IsLastCrumb}
 use Rattle.crumbs.proofs.Crumbing.{last_crumb}

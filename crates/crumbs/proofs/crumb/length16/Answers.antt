@@ -1,5 +1,5 @@
 use Rattle.std.proofs.Common.{◌≡◌, ◌<◌, length, arith}
-use Rattle.text_spec.specs.Crumbs.{size16, crumbs}
+use Rattle.index_words.specs.Crumbs.{size16, crumbs}
 use Rattle.crumbs.proofs.Crumbing.{size16-le}
 use Rattle.crumbs.proofs.crumb.length16.Goals as goal
 

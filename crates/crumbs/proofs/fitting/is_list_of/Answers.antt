@@ -5,7 +5,7 @@ use Rattle.std.specs.Char.{len_utf8}
 use Rattle.std.specs.Str.{chars}
 use Rattle.text_spec.specs.declared.encoding.Encoding.TheVariants.{Utf8}
 use Rattle.text_spec.specs.Offsets.{len_utf16, start, down}
-use Rattle.text_spec.specs.Crumbs.{size16, crumbs}
+use Rattle.index_words.specs.Crumbs.{size16, crumbs}
 use Rattle.text_spec.specs.Packed.{bytes_of, denoted_text}
 use Rattle.text_spec.proofs.Walk.{start-zero, down-start}
 use Rattle.text_spec.proofs.Widths.{len8_some}

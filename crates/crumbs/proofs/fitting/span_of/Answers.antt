@@ -1,7 +1,7 @@
 use Rattle.std.proofs.Common.{◌≡◌, ap, ◌∙◌, ◌/◌, ⊎_elim, arith}
 use Rattle.std.proofs.lemmas.Nat.{div_below}
 use Rattle.std.proofs.Math.Nat.{div-zero}
-use Rattle.text_spec.specs.Crumbs.{size16}
+use Rattle.index_words.specs.Crumbs.{size16}
 use Rattle.crumbs.proofs.Growing.{same_crumbs}
 use Rattle.crumbs.proofs.fitting.span_of.Goals as goal
 

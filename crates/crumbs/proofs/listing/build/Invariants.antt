@@ -1,6 +1,6 @@
 use Rattle.std.proofs.Common.{◌≡◌, ◌≢◌, ◌+◌, ◌-◌, ◌*◌, ◌/◌, ◌%◌, ◌<◌, ◌≤◌, ◌++◌, get_or}
 use Rattle.text_spec.specs.declared.encoding.Encoding.TheVariants.{Utf8}
-use Rattle.text_spec.specs.Crumbs.{size16}
+use Rattle.index_words.specs.Crumbs.{size16}
 use Rattle.text_spec.specs.Packed.{content_words}
 use Rattle.text_spec.specs.Views.{size_in}
 use Rattle.crumbs.specs.Counting.{Seen, crumbs_below}

@@ -1,5 +1,5 @@
 use Rattle.std.proofs.Common.{◌≡◌, ℕ, List, sym, ap, ◌∙◌, ◌+◌, ◌-◌, ◌*◌, [], ◌∷◌, ◌++◌, length, arith, append_assoc, length-append}
-use Rattle.text_spec.specs.Crumbs.{index16}
+use Rattle.index_words.specs.Crumbs.{index16}
 use Rattle.crumbs.specs.Counting.{crumbs_below}
 use Rattle.slot_table.specs.Owners.{DraftSeen}
 use Rattle.crumbs.proofs.Growing.{below_more}

@@ -1,6 +1,6 @@
 use Rattle.std.proofs.Common.{◌≡◌, sym, ap, ◌∙◌, ◌/◌, [], ◌++◌, length, get_or, arith}
 use Rattle.std.specs.Option.{unwrap_or}
-use Rattle.text_spec.specs.Crumbs.{size16, crumbs}
+use Rattle.index_words.specs.Crumbs.{size16, crumbs}
 use Rattle.slot_table.specs.Owners.{DraftSeen, PassSeen, RefSeen}
 use Rattle.crumbs.specs.Fitting.{stored_text}
 use Rattle.crumbs.proofs.Crumbing.{length-crumbs}

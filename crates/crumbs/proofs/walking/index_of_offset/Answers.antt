@@ -2,7 +2,7 @@ use Rattle.std.proofs.Common.{◌≡◌, ◌≢◌, ℕ, sym, ap, subst, ◌∙�
 use Rattle.std.proofs.lemmas.Bool.{cond-false, ne_eqb}
 use Rattle.std.specs.Char.{len_utf8}
 use Rattle.text_spec.specs.declared.encoding.Encoding.TheVariants.{Utf8}
-use Rattle.text_spec.specs.Crumbs.{size16, index16}
+use Rattle.index_words.specs.Crumbs.{size16, index16}
 use Rattle.text_spec.specs.Offsets.{len_utf16, down}
 use Rattle.text_spec.specs.Views.{size_in}
 use Rattle.index_words.specs.Fields.{position_of, transcoded_of}

@@ -7,4 +7,4 @@ use Rattle.rounding.proofs.floors.boundary_before.Goals as goal
 pub returns-clause-floor : goal.returns-clause-floor
 returns-clause-floor g c =
     floor_found _ _ _ _ _ _ _ _ c.bounds-low.ensures c.requires
-    (c.boundary_at_or_before.ensures.value ∙ ap (λ p. start (width_in (g.T.Text.storage c.args.t.now)) (g.T.Text.whole c.args.t.now) (down (width_in (g.T.Text.storage c.args.t.now)) (g.T.Text.whole c.args.t.now) p)) c.position.ensures.value)
+    (c.boundary_at_or_before.ensures.value ∙ ap (λ p. start (width_in (g.T.Text.part c.args.t.now).storage) (g.T.Text.part c.args.t.now).whole (down (width_in (g.T.Text.part c.args.t.now).storage) (g.T.Text.part c.args.t.now).whole p)) c.position.ensures.value)

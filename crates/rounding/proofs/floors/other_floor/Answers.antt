@@ -10,7 +10,7 @@ use Rattle.rounding.proofs.floors.other_floor.Goals as goal
 
 -- the index of the floor with a transcoded offset
 abbrev at_floor : (g : Over) (t : g.row.T.Denot) (i past : ℕ) → ℕ
-at_floor g t i past = index_at (g.T.Text.storage t) (g.T.Text.whole t) (start (width_in (g.T.Text.storage t)) (g.T.Text.whole t) (down (width_in (g.T.Text.storage t)) (g.T.Text.whole t) (position_of i)), past)
+at_floor g t i past = index_at (g.T.Text.part t) (start (width_in (g.T.Text.part t).storage) (g.T.Text.part t).whole (down (width_in (g.T.Text.part t).storage) (g.T.Text.part t).whole (position_of i)), past)
 
 pub returns-then-at-position-clause-floor : goal.returns-then-at-position-clause-floor
 returns-then-at-position-clause-floor g c =
@@ -24,21 +24,21 @@ returns-then-at-high-clause-floor g c =
 
 pub pass_scalar-units-requires-clause-inside : goal.pass_scalar-units-requires-clause-inside
 pass_scalar-units-requires-clause-inside g c =
-    let before : c.boundary_before-at.result < size_in (g.T.Text.storage c.args.t.now) (g.T.Text.whole c.args.t.now)
+    let before : c.boundary_before-at.result < size_in (g.T.Text.part c.args.t.now).storage (g.T.Text.part c.args.t.now).whole
     = omega (arith, c.if-at-high.false, c.boundary_before-at.ensures.floor.within, c.bounds-high.ensures.high_is, c.bounds-high.ensures.high_inside) in
-    subst (λ t. c.boundary_before-at.result < size_in (g.T.Text.storage t) (g.T.Text.whole t)) (sym c.boundary_before-at.ensures.kept) before
+    subst (λ t. c.boundary_before-at.result < size_in (g.T.Text.part t).storage (g.T.Text.part t).whole) (sym c.boundary_before-at.ensures.kept) before
 
 pub pass_scalar-units-requires-clause-boundary : goal.pass_scalar-units-requires-clause-boundary
 pass_scalar-units-requires-clause-boundary g c =
-    subst (λ t. start (width_in (g.T.Text.storage t)) (g.T.Text.whole t) (down (width_in (g.T.Text.storage t)) (g.T.Text.whole t) c.boundary_before-at.result) ≡ c.boundary_before-at.result)
+    subst (λ t. start (width_in (g.T.Text.part t).storage) (g.T.Text.part t).whole (down (width_in (g.T.Text.part t).storage) (g.T.Text.part t).whole c.boundary_before-at.result) ≡ c.boundary_before-at.result)
     (sym c.boundary_before-at.ensures.kept) c.boundary_before-at.ensures.floor.boundary
 
 -- what the scalar at the floor takes, of the text as it was
 units_here : (g : Over) (old text : g.row.T.Denot) (i at next units : ℕ) → text ≡ old
-    → IsFloor (g.T.Text.storage old) (g.T.Text.whole old) (g.T.Text.first old) (g.T.Text.end old) i at → Passes (g.T.Text.storage text) (g.T.Text.whole text) at next units
-    → units ≡ other_width (g.T.Text.storage old) (get_or (g.T.Text.whole old) (down (width_in (g.T.Text.storage old)) (g.T.Text.whole old) (position_of i)) 0)
+    → IsFloor (g.T.Text.part old) i at → Passes (g.T.Text.part text) at next units
+    → units ≡ other_width (g.T.Text.part old).storage (get_or (g.T.Text.part old).whole (down (width_in (g.T.Text.part old).storage) (g.T.Text.part old).whole (position_of i)) 0)
 units_here g old text i at next units same floor passes =
-    units_passed _ _ _ _ i at next units floor (subst (λ t. Passes (g.T.Text.storage t) (g.T.Text.whole t) at next units) same passes)
+    units_passed _ _ _ _ i at next units floor (subst (λ t. Passes (g.T.Text.part t) at next units) same passes)
 
 pub returns-then-past-units-clause-floor : goal.returns-then-past-units-clause-floor
 returns-then-past-units-clause-floor g c =

@@ -6,9 +6,9 @@ use Rattle.rounding.proofs.floors.unit_floor.Goals as goal
 
 pub returns-then-at-position-clause-floor : goal.returns-then-at-position-clause-floor
 returns-then-at-position-clause-floor g c =
-    index_at_told c.encoding-encoding.result (g.T.Text.storage c.args.t.now) (g.T.Text.whole c.args.t.now) true c.boundary_before-at.result 0 _ c.encoding-encoding.ensures
+    index_at_told c.encoding-encoding.result (g.T.Text.part c.args.t.now).storage (g.T.Text.part c.args.t.now).whole true c.boundary_before-at.result 0 _ c.encoding-encoding.ensures
     (boundary_told _ _ _ 0 c.boundary_before-at.ensures.floor.boundary) c.index_from.ensures
-    ∙ ap (λ p. index_at (g.T.Text.storage c.args.t.now) (g.T.Text.whole c.args.t.now) (p, 0)) (c.if-at-position.true ∙ c.position-position.ensures.value)
+    ∙ ap (λ p. index_at (g.T.Text.part c.args.t.now) (p, 0)) (c.if-at-position.true ∙ c.position-position.ensures.value)
 
 pub returns-clause-floor : goal.returns-clause-floor
 returns-clause-floor g c =

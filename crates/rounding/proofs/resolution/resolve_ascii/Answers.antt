@@ -5,14 +5,14 @@ use Rattle.rounding.proofs.resolution.resolve_ascii.Goals as goal
 
 pub returns-then-offset-low-clause-refused : goal.returns-then-offset-low-clause-refused
 returns-then-offset-low-clause-refused g c =
-    other_low _ _ (g.T.Text.first c.args.t.now) (g.T.Text.end c.args.t.now) c.args.offset (omega (arith, c.if-offset-low.true, (ascii_offset _ _ (c.ascii-ascii.ensures.below c.requires) _ _ _ _ c.args.offset c.bounds-low.ensures (omega (arith, c.low-low.ensures.order, c.high-high.ensures.inside))).low_other))
+    other_low _ _ (g.T.Text.part c.args.t.now).first (g.T.Text.part c.args.t.now).end c.args.offset (omega (arith, c.if-offset-low.true, (ascii_offset _ _ (c.ascii-ascii.ensures.below c.requires) _ _ _ _ c.args.offset c.bounds-low.ensures (omega (arith, c.low-low.ensures.order, c.high-high.ensures.inside))).low_other))
 
 pub returns-then-offset-low-clause-carries : goal.returns-then-offset-low-clause-carries
 returns-then-offset-low-clause-carries g c = rw (← (ascii_offset _ _ (c.ascii-ascii.ensures.below c.requires) _ _ _ _ c.args.offset c.bounds-low.ensures (omega (arith, c.low-low.ensures.order, c.high-high.ensures.inside))).low_other, ← (ascii_offset _ _ (c.ascii-ascii.ensures.below c.requires) _ _ _ _ c.args.offset c.bounds-low.ensures (omega (arith, c.low-low.ensures.order, c.high-high.ensures.inside))).high_other) refl
 
 pub returns-then-high-offset-clause-refused : goal.returns-then-high-offset-clause-refused
 returns-then-high-offset-clause-refused g c =
-    other_high _ _ (g.T.Text.first c.args.t.now) (g.T.Text.end c.args.t.now) c.args.offset (omega (arith, c.if-high-offset.true, (ascii_offset _ _ (c.ascii-ascii.ensures.below c.requires) _ _ _ _ c.args.offset c.bounds-low.ensures (omega (arith, c.low-low.ensures.order, c.high-high.ensures.inside))).high_other))
+    other_high _ _ (g.T.Text.part c.args.t.now).first (g.T.Text.part c.args.t.now).end c.args.offset (omega (arith, c.if-high-offset.true, (ascii_offset _ _ (c.ascii-ascii.ensures.below c.requires) _ _ _ _ c.args.offset c.bounds-low.ensures (omega (arith, c.low-low.ensures.order, c.high-high.ensures.inside))).high_other))
 
 pub returns-then-high-offset-clause-carries : goal.returns-then-high-offset-clause-carries
 returns-then-high-offset-clause-carries g c = rw (← (ascii_offset _ _ (c.ascii-ascii.ensures.below c.requires) _ _ _ _ c.args.offset c.bounds-low.ensures (omega (arith, c.low-low.ensures.order, c.high-high.ensures.inside))).low_other, ← (ascii_offset _ _ (c.ascii-ascii.ensures.below c.requires) _ _ _ _ c.args.offset c.bounds-low.ensures (omega (arith, c.low-low.ensures.order, c.high-high.ensures.inside))).high_other) refl

@@ -10,16 +10,16 @@ use Rattle.rounding.proofs.resolution.resolve_other.Goals as goal
 
 -- the place where the walk ended before the text did, of the text as it was
 within : (g : Over) (old text : g.row.T.Denot) (low high before at units q : ℕ) → text ≡ old
-    → Bounds (g.T.Text.storage old) (g.T.Text.whole old) (g.T.Text.first old) (g.T.Text.end old) low high
-    → Reaches (g.T.Text.storage old) (g.T.Text.whole old) low before → before ≤ q
-    → Reaches (g.T.Text.storage text) (g.T.Text.whole text) at units → (at ≤ high) × (units ≤ q)
-    → (at ≡ high) ⊎ ((at < high) × (q < start (other_width (g.T.Text.storage text)) (g.T.Text.whole text) (suc (down (width_in (g.T.Text.storage text)) (g.T.Text.whole text) at))))
-    → (at ≡ high → ⊥) → IsPlaceOf (g.T.Text.storage old) (g.T.Text.whole old) (g.T.Text.first old) (g.T.Text.end old) q at (q - units)
+    → Bounds (g.T.Text.part old) low high
+    → Reaches (g.T.Text.part old) low before → before ≤ q
+    → Reaches (g.T.Text.part text) at units → (at ≤ high) × (units ≤ q)
+    → (at ≡ high) ⊎ ((at < high) × (q < start (other_width (g.T.Text.part text).storage) (g.T.Text.part text).whole (suc (down (width_in (g.T.Text.part text).storage) (g.T.Text.part text).whole at))))
+    → (at ≡ high → ⊥) → IsPlaceOf (g.T.Text.part old).storage (g.T.Text.part old).whole (g.T.Text.part old).first (g.T.Text.part old).end q at (q - units)
 within g old text low high before at units q same bounds lowest above reaches not_after last ends =
     let inside = ⊎_elim (λ (e : at ≡ high). absurd (ends e)) (λ h. h) last in
     place_within _ _ _ _ low high q at units before bounds lowest above
-    (subst (λ t. Reaches (g.T.Text.storage t) (g.T.Text.whole t) at units) same reaches) not_after.1 inside.0
-    (subst (λ t. q < start (other_width (g.T.Text.storage t)) (g.T.Text.whole t) (suc (down (width_in (g.T.Text.storage t)) (g.T.Text.whole t) at))) same inside.1)
+    (subst (λ t. Reaches (g.T.Text.part t) at units) same reaches) not_after.1 inside.0
+    (subst (λ t. q < start (other_width (g.T.Text.part t).storage) (g.T.Text.part t).whole (suc (down (width_in (g.T.Text.part t).storage) (g.T.Text.part t).whole at))) same inside.1)
 
 pub overflow_cast-offset : goal.overflow_cast-offset
 overflow_cast-offset g c =
@@ -34,12 +34,12 @@ index_from-requires-2-clause-past_in g c =
     place.few
 
 -- the index that is made of a boundary and an offset behind it
-made : (g : Over) (old text : g.row.T.Denot) (kind : Encoding) (at units past index : ℕ) → text ≡ old → kind ≡ g.T.Text.storage old
-    → Reaches (g.T.Text.storage text) (g.T.Text.whole text) at units → past < 4
+made : (g : Over) (old text : g.row.T.Denot) (kind : Encoding) (at units past index : ℕ) → text ≡ old → kind ≡ (g.T.Text.part old).storage
+    → Reaches (g.T.Text.part text) at units → past < 4
     → index ≡ word_of (record (plain at past kind) { scalar_aligned = past == 0 })
-    → IsIndexAt (g.T.Text.storage old) (g.T.Text.whole old) true at past index
+    → IsIndexAt (g.T.Text.part old).storage (g.T.Text.part old).whole true at past index
 made g old text kind at units past index same kept reaches few is =
-    let boundary = (subst (λ t. Reaches (g.T.Text.storage t) (g.T.Text.whole t) at units) same reaches).boundary in
+    let boundary = (subst (λ t. Reaches (g.T.Text.part t) at units) same reaches).boundary in
     index_from_told kind _ _ true (past == 0) at past index few kept (boundary_told _ _ at past boundary) is
 
 pub returns-clause-found : goal.returns-clause-found
@@ -56,7 +56,7 @@ returns-clause-word g c =
 
 pub returns-then-at-to-clause-found : goal.returns-then-at-to-clause-found
 returns-then-at-to-clause-found g c =
-    let reaches = subst (λ t. Reaches (g.T.Text.storage t) (g.T.Text.whole t) c.boundary_of-at.result.0 c.boundary_of-at.result.1) c.units_before-low.ensures.kept c.boundary_of-at.ensures.reached in
+    let reaches = subst (λ t. Reaches (g.T.Text.part t) c.boundary_of-at.result.0 c.boundary_of-at.result.1) c.units_before-low.ensures.kept c.boundary_of-at.ensures.reached in
     let place = place_end _ _ _ _ _ _ c.args.offset _ _ _ c.bounds-from.ensures c.units_before-low.ensures.units c.if-offset-low.false reaches c.boundary_of-at.ensures.not_after.1 c.if-at-to.true c.if-reached-offset.false in
     place.place ∙ ap Some (sym (made g c.args.t.now c.units_before-low.new.t _ _ _ _ _ c.units_before-low.ensures.kept c.encoding-encoding.ensures c.boundary_of-at.ensures.reached place.few c.index_from.ensures).place)
 

@@ -9,20 +9,20 @@ use Rattle.rounding.proofs.walk.boundary_of.Goals as goal
 
 -- what is passed, of the text as it was
 run : (g : Over) (old text : g.row.T.Denot) (at most next more scalars : ℕ) → text ≡ old
-    → PassesRun (g.T.Text.storage text) (g.T.Text.whole text) at most next more scalars
-    → PassesRun (g.T.Text.storage old) (g.T.Text.whole old) at most next more scalars
-run g old text at most next more scalars same = subst (λ t. PassesRun (g.T.Text.storage t) (g.T.Text.whole t) at most next more scalars) same
+    → PassesRun (g.T.Text.part text) at most next more scalars
+    → PassesRun (g.T.Text.part old) at most next more scalars
+run g old text at most next more scalars same = subst (λ t. PassesRun (g.T.Text.part t) at most next more scalars) same
 
 step : (g : Over) (c : After-pass_run-next g)
-    → Stepped (g.T.Text.storage c.args.t.now) (g.T.Text.whole c.args.t.now) c.scalars.at c.args.to c.pass_run-next.result.0 (c.scalars.reached + c.pass_run-next.result.1) c.pass_run-next.result.2
+    → Stepped (g.T.Text.part c.args.t.now).storage (g.T.Text.part c.args.t.now).whole (g.T.Text.part c.args.t.now).first (g.T.Text.part c.args.t.now).end c.scalars.at c.args.to c.pass_run-next.result.0 (c.scalars.reached + c.pass_run-next.result.1) c.pass_run-next.result.2
 step g c =
-    stepped _ _ _ _ _ _ _ _ _ c.scalars.invariant.reaches (run g c.args.t.now c.scalars.t _ _ _ _ _ c.scalars.invariant.same c.pass_run-next.ensures.passes)
+    stepped _ _ _ _ _ _ _ _ _ _ _ c.scalars.invariant.reaches (run g c.args.t.now c.scalars.t _ _ _ _ _ c.scalars.invariant.same c.pass_run-next.ensures.passes)
     (omega (arith, c.min-most.ensures, c.scalars-test.true)) c.scalars-test.true c.requires.boundary
 
 pub returns-then-offset-reached-clause-last : goal.returns-then-offset-reached-clause-last
 returns-then-offset-reached-clause-last g c =
-    let e = g.T.Text.storage c.args.t.now in
-    let b = g.T.Text.whole c.args.t.now in
+    let e = (g.T.Text.part c.args.t.now).storage in
+    let b = (g.T.Text.part c.args.t.now).whole in
     let passed = run g c.args.t.now c.scalars.t _ _ _ _ _ c.scalars.invariant.same c.pass_run-next.ensures.passes in
     let next = step g c.before in
     -- several scalars have no more units than there was room for

@@ -6,10 +6,10 @@ use Rattle.rounding.proofs.walk.units_before.Goals as goal
 
 -- what is passed, of the text as it was
 step : (g : Over) (c : goal.After-pass_run-next g)
-    → Stepped (g.T.Text.storage c.args.t.now) (g.T.Text.whole c.args.t.now) c.scalars.at c.args.to c.pass_run-next.result.0 (c.scalars.reached + c.pass_run-next.result.1) c.pass_run-next.result.2
+    → Stepped (g.T.Text.part c.args.t.now).storage (g.T.Text.part c.args.t.now).whole (g.T.Text.part c.args.t.now).first (g.T.Text.part c.args.t.now).end c.scalars.at c.args.to c.pass_run-next.result.0 (c.scalars.reached + c.pass_run-next.result.1) c.pass_run-next.result.2
 step g c =
-    stepped _ _ _ _ _ (c.args.to - c.scalars.at) _ _ _ c.scalars.invariant.reaches
-    (subst (λ t. PassesRun (g.T.Text.storage t) (g.T.Text.whole t) c.scalars.at (c.args.to - c.scalars.at) c.pass_run-next.result.0 c.pass_run-next.result.1 c.pass_run-next.result.2)
+    stepped _ _ _ _ _ _ _ (c.args.to - c.scalars.at) _ _ _ c.scalars.invariant.reaches
+    (subst (λ t. PassesRun (g.T.Text.part t) c.scalars.at (c.args.to - c.scalars.at) c.pass_run-next.result.0 c.pass_run-next.result.1 c.pass_run-next.result.2)
     c.scalars.invariant.same c.pass_run-next.ensures.passes)
     (omega (arith, c.scalars-test.true)) c.scalars-test.true c.requires.boundary
 

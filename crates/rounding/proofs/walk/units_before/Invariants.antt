@@ -7,10 +7,10 @@ use Rattle.rounding.proofs.walk.units_before.Given as goal
 -- the scalars so far are passed
 abbrev pub invariant-scalars : goal.invariant-scalars
 invariant-scalars g l = record {
-  reaches : Reaches (g.T.Text.storage l.fn.t) (g.T.Text.whole l.fn.t) l.at l.reached;
+  reaches : Reaches (g.T.Text.part l.fn.t) l.at l.reached;
   not_after : l.at ≤ l.to;
   same : l.t ≡ l.fn.t;
-  cost : l.steps + 2 * down (width_in (g.T.Text.storage l.fn.t)) (g.T.Text.whole l.fn.t) l.from ≤ l.fn.steps + 2 * down (width_in (g.T.Text.storage l.fn.t)) (g.T.Text.whole l.fn.t) l.at;
+  cost : l.steps + 2 * down (width_in (g.T.Text.part l.fn.t).storage) (g.T.Text.part l.fn.t).whole l.from ≤ l.fn.steps + 2 * down (width_in (g.T.Text.part l.fn.t).storage) (g.T.Text.part l.fn.t).whole l.at;
 }
 
 abbrev pub decreases-scalars : goal.decreases-scalars

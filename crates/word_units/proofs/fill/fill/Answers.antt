@@ -8,20 +8,20 @@ use Rattle.word_units.proofs.fill.fill.Given.{Over}
 use Rattle.word_units.proofs.fill.fill.Goals as goal
 
 -- the scalar that is read, of the text as it was
-step : (g : Over) (old text : g.row.T.Denot) (at to scalar width : ℕ) → text ≡ old → at < to → to ≤ size_in (g.T.Text.storage old) (g.T.Text.whole old)
-    → start (width_in (g.T.Text.storage old)) (g.T.Text.whole old) (down (width_in (g.T.Text.storage old)) (g.T.Text.whole old) at) ≡ at
-    → start (width_in (g.T.Text.storage old)) (g.T.Text.whole old) (down (width_in (g.T.Text.storage old)) (g.T.Text.whole old) to) ≡ to
-    → scalar ≡ get_or (g.T.Text.whole text) (down (width_in (g.T.Text.storage text)) (g.T.Text.whole text) at) 0
-    → width ≡ width_in (g.T.Text.storage text) (get_or (g.T.Text.whole text) (down (width_in (g.T.Text.storage text)) (g.T.Text.whole text) at) 0)
-    → Passed (g.T.Text.storage old) (g.T.Text.whole old) at to (at + width) scalar
+step : (g : Over) (old text : g.row.T.Denot) (at to scalar width : ℕ) → text ≡ old → at < to → to ≤ size_in (g.T.Text.part old).storage (g.T.Text.part old).whole
+    → start (width_in (g.T.Text.part old).storage) (g.T.Text.part old).whole (down (width_in (g.T.Text.part old).storage) (g.T.Text.part old).whole at) ≡ at
+    → start (width_in (g.T.Text.part old).storage) (g.T.Text.part old).whole (down (width_in (g.T.Text.part old).storage) (g.T.Text.part old).whole to) ≡ to
+    → scalar ≡ get_or (g.T.Text.part text).whole (down (width_in (g.T.Text.part text).storage) (g.T.Text.part text).whole at) 0
+    → width ≡ width_in (g.T.Text.part text).storage (get_or (g.T.Text.part text).whole (down (width_in (g.T.Text.part text).storage) (g.T.Text.part text).whole at) 0)
+    → Passed (g.T.Text.part old).storage (g.T.Text.part old).whole at to (at + width) scalar
 step g old text at to scalar width same before within boundary end_boundary is takes =
     passed _ _ at to _ scalar before within boundary end_boundary
-    (subst (λ t. scalar ≡ get_or (g.T.Text.whole t) (down (width_in (g.T.Text.storage t)) (g.T.Text.whole t) at) 0) same is)
-    (ap (λ n. at + n) (subst (λ t. width ≡ width_in (g.T.Text.storage t) (get_or (g.T.Text.whole t) (down (width_in (g.T.Text.storage t)) (g.T.Text.whole t) at) 0)) same takes))
+    (subst (λ t. scalar ≡ get_or (g.T.Text.part t).whole (down (width_in (g.T.Text.part t).storage) (g.T.Text.part t).whole at) 0) same is)
+    (ap (λ n. at + n) (subst (λ t. width ≡ width_in (g.T.Text.part t).storage (get_or (g.T.Text.part t).whole (down (width_in (g.T.Text.part t).storage) (g.T.Text.part t).whole at) 0)) same takes))
 
 pub returns-then-size-len_utf8-gt64-clause-piece : goal.returns-then-size-len_utf8-gt64-clause-piece
 returns-then-size-len_utf8-gt64-clause-piece g c =
-    let i = c.scalars.invariant in piece_of _ _ _ _ _ _ i.bytes i.long i.order c.requires.boundary i.boundary i.size
+    let i = c.scalars.invariant in piece_of _ _ _ _ _ _ _ _ i.bytes i.long i.order c.requires.boundary i.boundary i.size
 
 pub scalars-preserved : goal.scalars-preserved
 scalars-preserved g c =
@@ -46,4 +46,4 @@ scalars-preserved g c =
 
 pub returns-clause-piece : goal.returns-clause-piece
 returns-clause-piece g c =
-    let i = c.scalars.invariant in piece_of _ _ _ _ _ _ i.bytes i.long i.order c.requires.boundary i.boundary i.size
+    let i = c.scalars.invariant in piece_of _ _ _ _ _ _ _ _ i.bytes i.long i.order c.requires.boundary i.boundary i.size

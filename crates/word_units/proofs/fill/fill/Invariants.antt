@@ -8,8 +8,8 @@ use Rattle.word_units.proofs.fill.fill.Given as goal
 -- the scalars so far are written, each into a byte at least
 abbrev pub invariant-scalars : goal.invariant-scalars
 invariant-scalars g l =
-    let w = width_in (g.T.Text.storage l.fn.t) in
-    let b = g.T.Text.whole l.fn.t in
+    let w = width_in (g.T.Text.part l.fn.t).storage in
+    let b = (g.T.Text.part l.fn.t).whole in
     record {
       same : l.t ≡ l.fn.t;
       bytes : take l.size l.buf ≡ utf8 (part b (down w b l.p) (down w b l.at));

@@ -12,8 +12,8 @@ returns-then-is_pair-clause-value g c =
     let p = c.args.p in
     let unit = c.unit_in-unit.ensures ∙ ap (λ n. n / 2 ^ (16 * (p % 4)) % 65536) c.word-word.ensures.value in
     let half = c.other_half-beside.ensures in
-    let told = backs16 _ ws _ (g.T.Text.whole c.args.t.now) p _ _ c.requires.encoding c.count-count.ensures.value c.count-count.ensures.denotes c.requires.inside unit
-    (λ low high some. half.before low high some ∙ ap (λ v. get_or (units_of (g.T.Text.words v) (size_in Utf16 (g.T.Text.whole v))) (p - 1) 0) c.word-word.ensures.kept)
+    let told = backs16 _ ws _ (g.T.Text.part c.args.t.now).whole p _ _ c.requires.encoding c.count-count.ensures.value c.count-count.ensures.denotes c.requires.inside unit
+    (λ low high some. half.before low high some ∙ ap (λ v. get_or (units_of (g.T.Text.words v) (size_in Utf16 (g.T.Text.part v).whole)) (p - 1) 0) c.word-word.ensures.kept)
     half.none in
     (told.0 (c.is_pair.ensures.0 c.if-is_pair.true)).1
 
@@ -23,7 +23,7 @@ returns-else-is_pair-clause-value g c =
     let p = c.args.p in
     let unit = c.unit_in-unit.ensures ∙ ap (λ n. n / 2 ^ (16 * (p % 4)) % 65536) c.word-word.ensures.value in
     let half = c.other_half-beside.ensures in
-    let told = backs16 _ ws _ (g.T.Text.whole c.args.t.now) p _ _ c.requires.encoding c.count-count.ensures.value c.count-count.ensures.denotes c.requires.inside unit
-    (λ low high some. half.before low high some ∙ ap (λ v. get_or (units_of (g.T.Text.words v) (size_in Utf16 (g.T.Text.whole v))) (p - 1) 0) c.word-word.ensures.kept)
+    let told = backs16 _ ws _ (g.T.Text.part c.args.t.now).whole p _ _ c.requires.encoding c.count-count.ensures.value c.count-count.ensures.denotes c.requires.inside unit
+    (λ low high some. half.before low high some ∙ ap (λ v. get_or (units_of (g.T.Text.words v) (size_in Utf16 (g.T.Text.part v).whole)) (p - 1) 0) c.word-word.ensures.kept)
     half.none in
     told.1 (iff_false c.is_pair.ensures c.if-is_pair.false)

@@ -10,7 +10,7 @@ back-init g c =
     record {
       same = c.word-word.ensures.kept;
       before = omega arith;
-      floor = start-down len_utf8 (g.T.Text.whole c.args.t.now) c.args.p;
+      floor = start-down len_utf8 (g.T.Text.part c.args.t.now).whole c.args.p;
       here = c.word-word.ensures.value;
       cost = omega (arith, c.word-word.ensures.cost);
     }
@@ -18,7 +18,7 @@ back-init g c =
 -- a byte that continues a scalar isn't at the boundary
 pub overflow_sub-place : goal.overflow_sub-place
 overflow_sub-place g c =
-    let b = g.T.Text.whole c.args.t.now in
+    let b = (g.T.Text.part c.args.t.now).whole in
     let back = c.back.invariant in
     let backs = backs8 _ (g.T.Text.words c.args.t.now) _ b c.args.p c.back.place c.back.word _ c.requires.encoding c.count-count.ensures.value c.count-count.ensures.denotes
     c.requires.inside back.floor back.before back.here c.byte_in.ensures in
@@ -28,7 +28,7 @@ overflow_sub-place g c =
 
 pub back-preserved-then-place-eq7 : goal.back-preserved-then-place-eq7
 back-preserved-then-place-eq7 g c =
-    let b = g.T.Text.whole c.args.t.now in
+    let b = (g.T.Text.part c.args.t.now).whole in
     let back = c.back.invariant in
     let backs = backs8 _ (g.T.Text.words c.args.t.now) _ b c.args.p c.back.place c.back.word _ c.requires.encoding c.count-count.ensures.value c.count-count.ensures.denotes
     c.requires.inside back.floor back.before back.here c.byte_in.ensures in
@@ -44,7 +44,7 @@ back-preserved-then-place-eq7 g c =
 
 pub back-smaller : goal.back-smaller
 back-smaller g c =
-    let b = g.T.Text.whole c.args.t.now in
+    let b = (g.T.Text.part c.args.t.now).whole in
     let back = c.back.invariant in
     let backs = backs8 _ (g.T.Text.words c.args.t.now) _ b c.args.p c.back.place c.back.word _ c.requires.encoding c.count-count.ensures.value c.count-count.ensures.denotes
     c.requires.inside back.floor back.before back.here c.byte_in.ensures in
@@ -54,7 +54,7 @@ back-smaller g c =
 
 pub back-preserved : goal.back-preserved
 back-preserved g c =
-    let b = g.T.Text.whole c.args.t.now in
+    let b = (g.T.Text.part c.args.t.now).whole in
     let back = c.back.invariant in
     let backs = backs8 _ (g.T.Text.words c.args.t.now) _ b c.args.p c.back.place c.back.word _ c.requires.encoding c.count-count.ensures.value c.count-count.ensures.denotes
     c.requires.inside back.floor back.before back.here c.byte_in.ensures in
@@ -72,7 +72,7 @@ back-preserved g c =
 -- and the first one that doesn't is
 pub returns-clause-value : goal.returns-clause-value
 returns-clause-value g c =
-    let b = g.T.Text.whole c.args.t.now in
+    let b = (g.T.Text.part c.args.t.now).whole in
     let back = c.back.invariant in
     let backs = backs8 _ (g.T.Text.words c.args.t.now) _ b c.args.p c.back.place c.back.word _ c.requires.encoding c.count-count.ensures.value c.count-count.ensures.denotes
     c.requires.inside back.floor back.before back.here c.byte_in.ensures in
@@ -81,7 +81,7 @@ returns-clause-value g c =
 
 pub returns-clause-cost : goal.returns-clause-cost
 returns-clause-cost g c =
-    let b = g.T.Text.whole c.args.t.now in
+    let b = (g.T.Text.part c.args.t.now).whole in
     let back = c.back.invariant in
     let backs = backs8 _ (g.T.Text.words c.args.t.now) _ b c.args.p c.back.place c.back.word _ c.requires.encoding c.count-count.ensures.value c.count-count.ensures.denotes
     c.requires.inside back.floor back.before back.here c.byte_in.ensures in

@@ -6,7 +6,7 @@ use Rattle.word_units.proofs.floor.floor8.Given as goal
 -- the boundary isn't passed; the word at hand is the place's; and a word was read for each that was come into
 abbrev pub invariant-back : goal.invariant-back
 invariant-back g l =
-    let b = g.T.Text.whole l.fn.t in
+    let b = (g.T.Text.part l.fn.t).whole in
     record {
       same : l.t ≡ l.fn.t;
       before : l.place ≤ l.p;

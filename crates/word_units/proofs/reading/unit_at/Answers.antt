@@ -9,7 +9,7 @@ use Rattle.word_units.proofs.reading.unit_at.Goals as goal
 
 pub returns-clause-value : goal.returns-clause-value
 returns-clause-value g c =
-    let b = g.T.Text.whole c.args.t.now in
+    let b = (g.T.Text.part c.args.t.now).whole in
     let ws = g.T.Text.words c.args.t.now in
     let p = c.args.p in
     let us = units_of ws (size_in Utf16 b) in
@@ -19,7 +19,7 @@ returns-clause-value g c =
     let same = c.word-word.ensures.kept in
     let read = c.repaired_unit.ensures in
     unit_read_as us w.fits p (omega (arith, w.count, c.requires.inside)) _ _ _ unit
-    (λ low high. half.next low high ∙ ap (λ v. get_or (units_of (g.T.Text.words v) (size_in Utf16 (g.T.Text.whole v))) (p + 1) 0) same)
-    (λ low high some. half.before low high some ∙ ap (λ v. get_or (units_of (g.T.Text.words v) (size_in Utf16 (g.T.Text.whole v))) (p - 1) 0) same)
+    (λ low high. half.next low high ∙ ap (λ v. get_or (units_of (g.T.Text.words v) (size_in Utf16 (g.T.Text.part v).whole)) (p + 1) 0) same)
+    (λ low high some. half.before low high some ∙ ap (λ v. get_or (units_of (g.T.Text.words v) (size_in Utf16 (g.T.Text.part v).whole)) (p - 1) 0) same)
     half.none read.first read.second read.alone
     ∙ ap (λ t. get_or (utf16 t) p 0) w.text

@@ -6,7 +6,7 @@ use Rattle.word_units.proofs.scalar.code8_at.Goals as goal
 pub byte_word_behind-far-requires-clause-inside : goal.byte_word_behind-far-requires-clause-inside
 byte_word_behind-far-requires-clause-inside g c =
     let ws = g.T.Text.words c.args.t.now in
-    let b = g.T.Text.whole c.args.t.now in
+    let b = (g.T.Text.part c.args.t.now).whole in
     let s = told8 _ ws _ b c.args.p c.requires.encoding c.count-count.ensures.value c.count-count.ensures.denotes c.requires.inside c.requires.boundary in
     let w = c.width_of_lead-width.ensures in
     let lead = c.byte_in-lead.ensures ∙ ap (λ n. n / 2 ^ (8 * (c.args.p % 8)) % 256) c.word-near.ensures.value in
@@ -16,7 +16,7 @@ byte_word_behind-far-requires-clause-inside g c =
 pub returns-clause-width : goal.returns-clause-width
 returns-clause-width g c =
     let ws = g.T.Text.words c.args.t.now in
-    let b = g.T.Text.whole c.args.t.now in
+    let b = (g.T.Text.part c.args.t.now).whole in
     let s = told8 _ ws _ b c.args.p c.requires.encoding c.count-count.ensures.value c.count-count.ensures.denotes c.requires.inside c.requires.boundary in
     let w = c.width_of_lead-width.ensures in
     let lead = c.byte_in-lead.ensures ∙ ap (λ n. n / 2 ^ (8 * (c.args.p % 8)) % 256) c.word-near.ensures.value in
@@ -25,7 +25,7 @@ returns-clause-width g c =
 pub returns-clause-code : goal.returns-clause-code
 returns-clause-code g c =
     let ws = g.T.Text.words c.args.t.now in
-    let b = g.T.Text.whole c.args.t.now in
+    let b = (g.T.Text.part c.args.t.now).whole in
     let p = c.args.p in
     let s = told8 _ ws _ b p c.requires.encoding c.count-count.ensures.value c.count-count.ensures.denotes c.requires.inside c.requires.boundary in
     let w = c.width_of_lead-width.ensures in
@@ -44,6 +44,6 @@ returns-clause-code g c =
 pub returns-clause-scalar : goal.returns-clause-scalar
 returns-clause-scalar g c =
     let ws = g.T.Text.words c.args.t.now in
-    let b = g.T.Text.whole c.args.t.now in
+    let b = (g.T.Text.part c.args.t.now).whole in
     let s = told8 _ ws _ b c.args.p c.requires.encoding c.count-count.ensures.value c.count-count.ensures.denotes c.requires.inside c.requires.boundary in
     subst IsScalar (sym (returns-clause-code g c)) s.stands.scalar

@@ -9,5 +9,5 @@ scalars-init g c =
       same = refl;
       end = c.count-end.ensures.value;
       within = omega arith;
-      boundary = omega (arith, start-down (width_in (g.T.Text.storage c.args.t.now)) (g.T.Text.whole c.args.t.now) 0);
+      boundary = omega (arith, start-down (width_in (g.T.Text.part c.args.t.now).storage) (g.T.Text.part c.args.t.now).whole 0);
     }

@@ -5,8 +5,8 @@ use Rattle.word_units.proofs.tests.scalars_of.Given as goal
 
 abbrev pub invariant-scalars : goal.invariant-scalars
 invariant-scalars g l =
-    let e = g.T.Text.storage l.fn.t in
-    let b = g.T.Text.whole l.fn.t in
+    let e = (g.T.Text.part l.fn.t).storage in
+    let b = (g.T.Text.part l.fn.t).whole in
     record {
       same : l.t ≡ l.fn.t;
       end : l.end ≡ size_in e b;

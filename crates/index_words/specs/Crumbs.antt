@@ -1,16 +1,17 @@
 -- Breadcrumbs of a text in UTF-8 storage: its length in UTF-16 units, and an index word for each n-th unit (ours, after Swift).
-use Rattle.std.specs.Prelude.{ℕ, ◌+◌, ◌-◌, ◌*◌, ◌/◌, ◌==◌, List, ◌∷◌, length, map, if◌then◌else◌}
+use Rattle.std.specs.Prelude.{ℕ, ◌+◌, ◌-◌, ◌*◌, ◌/◌, List, ◌∷◌, length, map}
 use Rattle.std.specs.List.{range_with_len}
 use Rattle.std.specs.Char.{len_utf8}
 use Rattle.text_spec.specs.Offsets.{len_utf16, start, down}
+use Rattle.index_words.specs.Fields.{crumb, word_of}
 
 -- how many UTF-16 units a text has
 abbrev pub size16 : List ℕ → ℕ
 size16 text = start len_utf16 text (length text)
 
--- an index word marked for UTF-8, scalar aligned where nothing of a scalar is passed
+-- the word of a place that is marked for UTF-8, scalar aligned where nothing of a scalar is passed
 abbrev pub index_word8 : ℕ → ℕ → ℕ
-index_word8 position transcoded = position * 65536 + transcoded * 16384 + (if transcoded == 0 then 5 else 4)
+index_word8 position transcoded = word_of (crumb position transcoded)
 
 -- the index word of UTF-16 unit m
 abbrev pub index16 : List ℕ → ℕ → ℕ
