@@ -1,6 +1,6 @@
 -- Breadcrumbs one by one: what an index word of the list says, and how the words grow.
-use Rattle.std.proofs.Common.{◌≡◌, refl, sym, ap, ◌∙◌, ℕ, zero, suc, ◌+◌, ◌-◌, ◌*◌, ◌/◌, ◌%◌, ◌^◌, ◌<◌, ◌≤◌, List, [], ◌∷◌, length, get_or, arith, ⊎_elim, true, false, is_le, nat_cmp, subst}
-use Rattle.std.proofs.lemmas.Bool.{cases_lt, cases_eq, cond-true, cond-false, eq-eqb, ne_eqb}
+use Rattle.std.proofs.Common.{◌≡◌, refl, sym, ap, ◌∙◌, ℕ, zero, suc, ◌+◌, ◌-◌, ◌*◌, ◌/◌, ◌%◌, ◌^◌, ◌<◌, ◌≤◌, List, [], ◌∷◌, length, get_or, arith, ⊎_elim, true, false, is_le, nat_cmp, subst, Bool}
+use Rattle.std.proofs.lemmas.Bool.{cases_lt, cases_eq, eq-eqb, ne_eqb}
 use Rattle.std.proofs.lemmas.List.FromFn.{get_or-map-range_with_len, length-map-range_with_len}
 use Rattle.std.proofs.lemmas.Nat.{div-add-mod', mul-le, le-div, pow_pos}
 use Rattle.std.proofs.lemmas.Bool.Decides.{nat_tests}
@@ -16,7 +16,7 @@ use Rattle.text_spec.specs.Views.{size_in}
 use Rattle.text_spec.proofs.Downward.{start-down, down-length, down-greatest}
 use Rattle.text_spec.proofs.Walk.{start-zero, start-suc, start-mono, down-next, down-start, down-end}
 use Rattle.text_spec.proofs.Widths.{len16_cases, len16_some, len16_most, len8_some, len8_pair}
-use Rattle.index_words.specs.Fields.{IsIndexWord, place_of}
+use Rattle.index_words.specs.Fields.{IsIndexWord, place_of, plain, word_of}
 use Rattle.crumbs.specs.Searching.{IsLastCrumb}
 
 -- ---- a text has no more UTF-16 units than code units of its storage
@@ -41,10 +41,13 @@ pub record Word8 (p x word : ℕ) : Type 0 where
   pub place : word / 16384 ≡ p * 4 + x
   pub is_index : IsIndexWord word
 
+abbrev marked : ℕ → ℕ → Bool → ℕ
+marked p x told = word_of (record (plain p x Utf8) { scalar_aligned = told })
+
 pub word8 : (p x : ℕ) → x ≤ 1 → Word8 p x (index_word8 p x)
 word8 p x h =
-    ⊎_elim (λ e. let f : index_word8 p x ≡ p * 65536 + x * 16384 + 5 = ap (λ n. p * 65536 + x * 16384 + n) (cond-true _ 5 4 (eq-eqb x 0 e)) in parts 5 f (omega arith))
-    (λ e. let f : index_word8 p x ≡ p * 65536 + x * 16384 + 4 = ap (λ n. p * 65536 + x * 16384 + n) (cond-false _ 5 4 (ne_eqb x 0 e)) in parts 4 f (omega arith))
+    ⊎_elim (λ e. let f : index_word8 p x ≡ p * 65536 + x * 16384 + 5 = ap (marked p x) (eq-eqb x 0 e) ∙ omega arith in parts 5 f (omega arith))
+    (λ e. let f : index_word8 p x ≡ p * 65536 + x * 16384 + 4 = ap (marked p x) (ne_eqb x 0 e) ∙ omega arith in parts 4 f (omega arith))
     (cases_eq x 0)
   where
     parts : (low : ℕ) → index_word8 p x ≡ p * 65536 + x * 16384 + low → low < 16 → Word8 p x (index_word8 p x)

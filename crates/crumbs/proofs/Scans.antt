@@ -8,6 +8,7 @@ use Rattle.text_spec.specs.Views.{size_in}
 use Rattle.text_spec.proofs.Downward.{start-down, down-length, down-greatest}
 use Rattle.text_spec.proofs.Walk.{start-mono, start-le, down-unique, down-end}
 use Rattle.word_units.specs.Walking.{Passes}
+use Rattle.word_units.specs.Parts.{all_of}
 use Rattle.rounding.specs.Resolving.{Reaches}
 use Rattle.crumbs.specs.declared.scanning.Limit.{Limit}
 use Rattle.crumbs.specs.declared.scanning.Limit.TheVariants.{Byte, Unit}
@@ -36,7 +37,7 @@ number-most t (Unit o) = down-length len_utf16 t o
 
 -- ---- the scalars that begin in the word of byte `at`, from there on
 pub record Scanning (t : List ℕ) (limit : Limit) (at begins units : ℕ) : Type 0 where
-  pub reaches : Reaches Utf8 t begins units
+  pub reaches : Reaches (all_of Utf8 t) begins units
   pub within : begins ≤ size_in Utf8 t
   pub few : units ≤ begins
   pub before : down len_utf8 t begins ≤ number_at t limit
@@ -44,7 +45,7 @@ pub record Scanning (t : List ℕ) (limit : Limit) (at begins units : ℕ) : Typ
   pub near : begins ≤ at / 8 * 8 + 11
   pub last : at < begins → start len_utf8 t (down len_utf8 t begins - 1) / 8 ≡ at / 8
 
-pub scan_begins : (t : List ℕ) (limit : Limit) (at units : ℕ) → Reaches Utf8 t at units → at < size_in Utf8 t → down len_utf8 t at ≤ number_at t limit → Scanning t limit at at units
+pub scan_begins : (t : List ℕ) (limit : Limit) (at units : ℕ) → Reaches (all_of Utf8 t) at units → at < size_in Utf8 t → down len_utf8 t at ≤ number_at t limit → Scanning t limit at at units
 scan_begins t limit at units here inside before = record {
   reaches = here;
   within = omega (arith, inside);
@@ -55,7 +56,7 @@ scan_begins t limit at units here inside before = record {
   last = λ h. absurd (omega (arith, h));
 }
 
-module _ (t : List ℕ) (limit : Limit) (at begins units end takes : ℕ) (l : Scanning t limit at begins units) (p : Passes Utf8 t begins end takes) where
+module _ (t : List ℕ) (limit : Limit) (at begins units end takes : ℕ) (l : Scanning t limit at begins units) (p : Passes (all_of Utf8 t) begins end takes) where
   pub scan_more : begins / 8 ≡ at / 8 → ends_behind limit end (units + takes) ≡ false → Scanning t limit at end (units + takes)
   scan_more near not =
       let s = stepped8 t begins units l.reaches end takes p in
@@ -110,13 +111,13 @@ scan_ends t limit at begins units stop l ahead past ends =
 
 -- ---- what a word that doesn't hold the limit leaves
 pub record Walked (t : List ℕ) (limit : Limit) (first at units : ℕ) : Type 0 where
-  pub reaches : Reaches Utf8 t at units
+  pub reaches : Reaches (all_of Utf8 t) at units
   pub within : at ≤ size_in Utf8 t
   pub before : down len_utf8 t at ≤ number_at t limit
   pub order : first ≤ down len_utf8 t at
   pub fresh : first < down len_utf8 t at → at < size_in Utf8 t → at / 8 ≡ start len_utf8 t (down len_utf8 t at - 1) / 8 + 1
 
-pub walk_begins : (t : List ℕ) (limit : Limit) (at units : ℕ) → Reaches Utf8 t at units → at ≤ size_in Utf8 t → down len_utf8 t at ≤ number_at t limit
+pub walk_begins : (t : List ℕ) (limit : Limit) (at units : ℕ) → Reaches (all_of Utf8 t) at units → at ≤ size_in Utf8 t → down len_utf8 t at ≤ number_at t limit
     → Walked t limit (down len_utf8 t at) at units
 walk_begins t limit at units here within before = record {
   reaches = here;

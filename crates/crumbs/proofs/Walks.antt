@@ -13,15 +13,16 @@ use Rattle.text_spec.proofs.Walk.{start-zero, start-suc, start-le, down-next, do
 use Rattle.text_spec.proofs.Widths.{len16_some, len16_most, len8_some}
 use Rattle.index_words.specs.Fields.{position_of, transcoded_of, place_of}
 use Rattle.word_units.specs.Walking.{Passes}
+use Rattle.word_units.specs.Parts.{all_of}
 use Rattle.rounding.specs.Resolving.{Reaches, index_place}
 use Rattle.crumbs.specs.Searching.{IsLastCrumb}
 use Rattle.crumbs.specs.Scanning.{Stands}
 use Rattle.crumbs.proofs.Crumbing.{index16-word, past_most, before_or_at, next_multiple, index16-increases}
 
 -- ---- one scalar on
-module _ (t : List ℕ) (at units : ℕ) (here : Reaches Utf8 t at units) where
+module _ (t : List ℕ) (at units : ℕ) (here : Reaches (all_of Utf8 t) at units) where
   pub record Stepped8 (next more : ℕ) : Type 0 where
-    pub reaches : Reaches Utf8 t next (units + more)
+    pub reaches : Reaches (all_of Utf8 t) next (units + more)
     pub few : more ≤ 2
     pub some : 1 ≤ more
     pub within : units + more ≤ size16 t
@@ -30,7 +31,7 @@ module _ (t : List ℕ) (at units : ℕ) (here : Reaches Utf8 t at units) where
     pub number : down len_utf8 t next ≡ suc (down len_utf8 t at)
     pub inside : down len_utf8 t at < length t
 
-  pub stepped8 : (next more : ℕ) → Passes Utf8 t at next more → Stepped8 next more
+  pub stepped8 : (next more : ℕ) → Passes (all_of Utf8 t) at next more → Stepped8 next more
   stepped8 next more p =
       let k = down len_utf8 t at in
       let number : down len_utf8 t next ≡ suc k = omega (arith, p.number) in
@@ -48,12 +49,12 @@ module _ (t : List ℕ) (at units : ℕ) (here : Reaches Utf8 t at units) where
       }
 
 -- ---- from the breadcrumb before an index
-reaches_at : (t : List ℕ) (k : ℕ) → k ≤ length t → Reaches Utf8 t (start len_utf8 t k) (start len_utf16 t k)
+reaches_at : (t : List ℕ) (k : ℕ) → k ≤ length t → Reaches (all_of Utf8 t) (start len_utf8 t k) (start len_utf16 t k)
 reaches_at t k h =
     let same = down-start len_utf8 len8_some t k h in
     record { boundary = ap (start len_utf8 t) same; offset = ap (start len_utf16 t) same }
 
-pub scalar_of_crumb : (t : List ℕ) (m word : ℕ) → m ≤ size16 t → word ≡ index16 t m → Reaches Utf8 t (position_of word) (m - transcoded_of word)
+pub scalar_of_crumb : (t : List ℕ) (m word : ℕ) → m ≤ size16 t → word ≡ index16 t m → Reaches (all_of Utf8 t) (position_of word) (m - transcoded_of word)
 scalar_of_crumb t m word inside is =
     let k = down len_utf16 t m in
     let w = index16-word t m inside in
@@ -148,7 +149,7 @@ crumb_number-le t n i m crumb last =
 
 -- ---- where a walk from a breadcrumb begins, and how far it goes
 pub record FromCrumb (t : List ℕ) (n m last word : ℕ) : Type 0 where
-  pub reaches : Reaches Utf8 t (position_of word) (m - transcoded_of word)
+  pub reaches : Reaches (all_of Utf8 t) (position_of word) (m - transcoded_of word)
   pub within : position_of word ≤ size_in Utf8 t
   pub number : down len_utf8 t (position_of word) ≡ down len_utf16 t m
   pub order : down len_utf8 t (position_of word) ≤ last

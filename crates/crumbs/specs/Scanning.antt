@@ -4,6 +4,7 @@ use Rattle.std.specs.Char.{len_utf8}
 use Rattle.text_spec.specs.declared.encoding.Encoding.TheVariants.{Utf8}
 use Rattle.text_spec.specs.Offsets.{len_utf16, start, down}
 use Rattle.text_spec.specs.Views.{size_in}
+use Rattle.word_units.specs.Parts.{all_of}
 use Rattle.rounding.specs.Resolving.{Reaches}
 use Rattle.crumbs.specs.declared.scanning.Limit.{Limit}
 use Rattle.crumbs.specs.declared.scanning.Limit.TheVariants.{Byte, Unit}
@@ -27,7 +28,7 @@ pub record Stands (text : List ℕ) (number begins units takes : ℕ) : Type 0 w
 -- of the scalars that begin in the word of byte `at` from there on, those before byte `begins` end before the limit or at it;
 -- the next one, which takes `takes` units, covers the limit, or where that is 0 they are all
 pub record Scanned (text : List ℕ) (limit : Limit) (at begins units takes : ℕ) : Type 0 where
-  pub reaches : Reaches Utf8 text begins units
+  pub reaches : Reaches (all_of Utf8 text) begins units
   pub within : begins ≤ size_in Utf8 text
   pub before : down len_utf8 text begins ≤ number_at text limit
   pub found : 1 ≤ takes → (Stands text (number_at text limit) begins units takes) × (begins / 8 ≡ at / 8) × (number_at text limit < length text)

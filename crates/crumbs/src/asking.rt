@@ -15,8 +15,8 @@ use word_units::{Steps, Text};
 pub fn for_offset<T: Text, L: Ledger>(t: &mut T, o: u64, steps: &mut Steps<L>) -> Index
     requires known { T.knows_crumbs t.old ≡ true }
     requires some { 1 ≤ T.STRIDE }
-    requires inside { o ≤ size16 (T.whole t.old) }
-    ensures value { result ≡ index16 (T.whole t.old) (o / T.STRIDE * T.STRIDE) }
+    requires inside { o ≤ size16 (T.part t.old).whole }
+    ensures value { result ≡ index16 (T.part t.old).whole (o / T.STRIDE * T.STRIDE) }
     ensures kept { t.new ≡ t.old }
     ensures cost { steps.new ≡ steps.old + 1 }
 {
@@ -27,11 +27,11 @@ pub fn for_offset<T: Text, L: Ledger>(t: &mut T, o: u64, steps: &mut Steps<L>) -
 fn last_before<T: Text, L: Ledger>(t: &mut T, i: Index, last: u64, steps: &mut Steps<L>) -> u64
     requires known { T.knows_crumbs t.old ≡ true }
     requires some { 1 ≤ T.STRIDE }
-    requires last { last ≡ size16 (T.whole t.old) / T.STRIDE }
+    requires last { last ≡ size16 (T.part t.old).whole / T.STRIDE }
     requires small { last < 2 ^ 48 }
     ensures within { result ≤ last }
-    ensures before { place_of (index16 (T.whole t.old) (result * T.STRIDE)) ≤ place_of i }
-    ensures after { result < last → place_of i < place_of (index16 (T.whole t.old) ((result + 1) * T.STRIDE)) }
+    ensures before { place_of (index16 (T.part t.old).whole (result * T.STRIDE)) ≤ place_of i }
+    ensures after { result < last → place_of i < place_of (index16 (T.part t.old).whole ((result + 1) * T.STRIDE)) }
     ensures kept { t.new ≡ t.old }
     ensures cost { (digits : ℕ) → last < 2 ^ digits → steps.new ≤ steps.old + digits }
     ensures counted { (digits : ℕ) → 2 ^ digits ≤ last + 1 → steps.old + digits ≤ steps.new }
@@ -57,10 +57,10 @@ fn last_before<T: Text, L: Ledger>(t: &mut T, i: Index, last: u64, steps: &mut S
 pub fn near<T: Text, L: Ledger>(t: &mut T, i: Index, steps: &mut Steps<L>) -> (u64, Index)
     requires known { T.knows_crumbs t.old ≡ true }
     requires some { 1 ≤ T.STRIDE }
-    ensures last { IsLastCrumb (T.whole t.old) T.STRIDE i result.0 result.1 }
+    ensures last { IsLastCrumb (T.part t.old).whole T.STRIDE i result.0 result.1 }
     ensures kept { t.new ≡ t.old }
-    ensures cost { (digits : ℕ) → size16 (T.whole t.old) / T.STRIDE < 2 ^ digits → steps.new ≤ steps.old + 2 + digits }
-    ensures counted { (digits : ℕ) → 2 ^ digits ≤ size16 (T.whole t.old) / T.STRIDE + 1 → steps.old + 2 + digits ≤ steps.new }
+    ensures cost { (digits : ℕ) → size16 (T.part t.old).whole / T.STRIDE < 2 ^ digits → steps.new ≤ steps.old + 2 + digits }
+    ensures counted { (digits : ℕ) → 2 ^ digits ≤ size16 (T.part t.old).whole / T.STRIDE + 1 → steps.old + 2 + digits ≤ steps.new }
 {
     let stride = t.stride() as u64;
     let last = length16(t, steps) / stride;

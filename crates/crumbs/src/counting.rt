@@ -1,8 +1,8 @@
 //! UTF-16 units counted over the bytes of a text in UTF-8 storage, where each word is read once.
-ghost use Rattle.std.specs.Prelude.{◌≡◌, ◌≢◌, ◌+◌, ◌*◌, ◌/◌, ◌%◌, ◌^◌, ◌<◌, ◌≤◌, length, slice_index};
+ghost use Rattle.std.specs.Prelude.{◌≡◌, ◌≢◌, ◌+◌, ◌*◌, ◌/◌, ◌%◌, ◌^◌, ◌<◌, ◌≤◌, slice_index};
 ghost use Rattle.text_spec.specs.declared.encoding.Encoding.TheVariants.{Utf8};
 ghost use Rattle.index_words.specs.Crumbs.{size16};
-ghost use Rattle.text_spec.specs.Packed.{byte_of, content_words};
+ghost use Rattle.text_spec.specs.Packed.{content_words};
 ghost use Rattle.text_spec.specs.Views.{size_in};
 ghost use Rattle.crumbs.specs.Counting.{units_begun};
 
@@ -28,8 +28,8 @@ pub(crate) fn units_at(word: u64, p: u64) -> u64
 
 /// The word of byte `p`, which is read where `p` is its first byte and is otherwise at hand.
 pub(crate) fn word_at<T: Text, L: Ledger>(t: &mut T, held: u64, p: u64, steps: &mut Steps<L>) -> u64
-    requires storage { T.storage t.old ≡ Utf8 }
-    requires inside { p < size_in Utf8 (T.whole t.old) }
+    requires storage { (T.part t.old).storage ≡ Utf8 }
+    requires inside { p < size_in Utf8 (T.part t.old).whole }
     requires held { p % 8 ≢ 0 → held ≡ slice_index (T.words t.old) (p / 8) }
     ensures value { result ≡ slice_index (T.words t.old) (p / 8) }
     ensures kept { t.new ≡ t.old }
@@ -44,10 +44,10 @@ pub(crate) fn word_at<T: Text, L: Ledger>(t: &mut T, held: u64, p: u64, steps: &
 
 /// How many UTF-16 units a text in UTF-8 storage has. Each word is read once.
 pub(crate) fn count_units<T: Text, L: Ledger>(t: &mut T, steps: &mut Steps<L>) -> u64
-    requires storage { T.storage t.old ≡ Utf8 }
-    ensures units { result ≡ size16 (T.whole t.old) }
+    requires storage { (T.part t.old).storage ≡ Utf8 }
+    ensures units { result ≡ size16 (T.part t.old).whole }
     ensures kept { t.new ≡ t.old }
-    ensures cost { steps.new ≡ steps.old + content_words Utf8 (size_in Utf8 (T.whole t.old)) }
+    ensures cost { steps.new ≡ steps.old + content_words Utf8 (size_in Utf8 (T.part t.old).whole) }
 {
     let count = t.count();
     let mut word = 0;

@@ -11,8 +11,8 @@ use word_units::{Steps, Text};
 pub(crate) fn crumb<T: Text, L: Ledger>(t: &mut T, number: u64, steps: &mut Steps<L>) -> Index
     requires known { T.knows_crumbs t.old ≡ true }
     requires some { 1 ≤ T.STRIDE }
-    requires inside { number ≤ size16 (T.whole t.old) / T.STRIDE }
-    ensures value { result ≡ index16 (T.whole t.old) (number * T.STRIDE) }
+    requires inside { number ≤ size16 (T.part t.old).whole / T.STRIDE }
+    ensures value { result ≡ index16 (T.part t.old).whole (number * T.STRIDE) }
     ensures kept { t.new ≡ t.old }
     ensures cost { steps.new ≡ steps.old + 1 }
 {
@@ -28,7 +28,7 @@ pub(crate) fn crumb<T: Text, L: Ledger>(t: &mut T, number: u64, steps: &mut Step
 /// How many UTF-16 units the text has. One word is read.
 pub(crate) fn length16<T: Text, L: Ledger>(t: &mut T, steps: &mut Steps<L>) -> u64
     requires known { T.knows_crumbs t.old ≡ true }
-    ensures value { result ≡ size16 (T.whole t.old) }
+    ensures value { result ≡ size16 (T.part t.old).whole }
     ensures small { result < 2 ^ 48 }
     ensures kept { t.new ≡ t.old }
     ensures cost { steps.new ≡ steps.old + 1 }

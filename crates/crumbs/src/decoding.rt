@@ -1,6 +1,5 @@
 //! Scalars found among packed bytes of which nothing is known.
-ghost use Rattle.std.specs.Prelude.{◌≡◌, ℕ, ◌^◌, ◌<◌, ◌≤◌, drop, MatchOption};
-ghost use Rattle.std.specs.Char.{len_utf8};
+ghost use Rattle.std.specs.Prelude.{◌≡◌, ◌^◌, ◌<◌, drop, MatchOption};
 ghost use Rattle.std.specs.Str.{StartsWithNoChar};
 ghost use Rattle.text_spec.specs.Packed.{byte_of, bytes_of};
 ghost use Rattle.crumbs.specs.Fitting.{BeginsScalar};

@@ -1,6 +1,6 @@
 //! Which list of words may be the side of a stored text: its list of breadcrumbs.
 ghost use Rattle.std.specs.Prelude.{◌≡◌, ℕ, List, ◌+◌, ◌-◌, ◌*◌, ◌^◌, ◌<◌, ◌≤◌, ◌↔◌, IsTrue, MatchOption, length, slice_index};
-ghost use Rattle.index_words.specs.Crumbs.{size16, index_word8, crumbs};
+ghost use Rattle.index_words.specs.Crumbs.{size16, crumbs};
 ghost use Rattle.crumbs.specs.Fitting.{IsCrumbList, IsListOf, Matches, IsAmiss};
 
 use crate::count_word::{is_utf16, units_in};

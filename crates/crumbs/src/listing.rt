@@ -30,11 +30,11 @@ fn write_due<T: Text, A: Attach>(
     requires begun { 0 < number → (number - 1) * T.STRIDE < reached }
     requires ahead { reached ≤ stop }
     requires near { stop ≤ reached + 2 }
-    requires units { (o : ℕ) → reached ≤ o → o < stop → index16 (T.whole t.now) o ≡ index_word8 at (o - reached) }
-    requires inside { stop ≤ size16 (T.whole t.now) + 1 }
-    requires room { length draft.old.written + size16 (T.whole t.now) / T.STRIDE + 1 ≤ draft.old.heap.layout.capacity_words + number }
-    ensures written { (front : List ℕ) → draft.old.written ≡ front ++ crumbs_below (T.whole t.now) T.STRIDE number
-        → draft.new ≡ record draft.old { written = front ++ crumbs_below (T.whole t.now) T.STRIDE result } }
+    requires units { (o : ℕ) → reached ≤ o → o < stop → index16 (T.part t.now).whole o ≡ index_word8 at (o - reached) }
+    requires inside { stop ≤ size16 (T.part t.now).whole + 1 }
+    requires room { length draft.old.written + size16 (T.part t.now).whole / T.STRIDE + 1 ≤ draft.old.heap.layout.capacity_words + number }
+    ensures written { (front : List ℕ) → draft.old.written ≡ front ++ crumbs_below (T.part t.now).whole T.STRIDE number
+        → draft.new ≡ record draft.old { written = front ++ crumbs_below (T.part t.now).whole T.STRIDE result } }
     ensures heap { draft.new.heap ≡ draft.old.heap }
     ensures longer { length draft.new.written + number ≡ length draft.old.written + result }
     ensures due { stop ≤ result * T.STRIDE }
@@ -59,16 +59,16 @@ pub fn build<T: Text, A: Attach, L: Ledger>(
     draft: &mut Draft<'_, A>,
     steps: &mut Steps<L>,
 )
-    requires storage { T.storage t.old ≡ Utf8 }
-    requires all { (T.first t.old ≡ 0) × (T.end t.old ≡ length (T.whole t.old)) }
+    requires storage { (T.part t.old).storage ≡ Utf8 }
+    requires all { ((T.part t.old).first ≡ 0) × ((T.part t.old).end ≡ length (T.part t.old).whole) }
     requires some { (1 ≤ T.STRIDE) × (T.STRIDE ≤ 4096) }
-    requires room { length draft.old.written + size16 (T.whole t.old) / T.STRIDE + 2 ≤ draft.old.heap.layout.capacity_words }
-    ensures written { draft.new ≡ record draft.old { written = draft.old.written ++ crumbs (T.whole t.old) T.STRIDE } }
+    requires room { length draft.old.written + size16 (T.part t.old).whole / T.STRIDE + 2 ≤ draft.old.heap.layout.capacity_words }
+    ensures written { draft.new ≡ record draft.old { written = draft.old.written ++ crumbs (T.part t.old).whole T.STRIDE } }
     ensures kept { t.new ≡ t.old }
 
     // Each content word is read twice, and a text has no more of them than scalars.
-    ensures cost { steps.new ≡ steps.old + 2 * content_words Utf8 (size_in Utf8 (T.whole t.old)) }
-    ensures few { steps.new ≤ steps.old + 2 * length (T.whole t.old) }
+    ensures cost { steps.new ≡ steps.old + 2 * content_words Utf8 (size_in Utf8 (T.part t.old).whole) }
+    ensures few { steps.new ≤ steps.old + 2 * length (T.part t.old).whole }
 {
     let count = t.count();
     draft.write(count_units(t, steps));

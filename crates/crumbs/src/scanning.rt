@@ -4,6 +4,7 @@ ghost use Rattle.std.specs.Char.{len_utf8};
 ghost use Rattle.text_spec.specs.declared.encoding.Encoding.TheVariants.{Utf8};
 ghost use Rattle.text_spec.specs.Offsets.{down};
 ghost use Rattle.text_spec.specs.Views.{size_in};
+ghost use Rattle.word_units.specs.Parts.{all_of};
 ghost use Rattle.rounding.specs.Resolving.{Reaches};
 ghost use Rattle.crumbs.specs.Searching.{words_through};
 ghost use Rattle.crumbs.specs.Scanning.{number_at, ends_behind, Stands, Scanned};
@@ -56,12 +57,12 @@ fn end_of_word(at: u64, count: u64) -> u64
 ///
 /// `word` is that word, and `units` lie before the boundary `at`.
 fn scan_word<T: Text>(t: &T, word: u64, at: u64, units: u64, limit: Limit) -> Scalar
-    requires storage { T.storage t.now ≡ Utf8 }
-    requires begun { Reaches Utf8 (T.whole t.now) at units }
-    requires inside { at < size_in Utf8 (T.whole t.now) }
-    requires order { down len_utf8 (T.whole t.now) at ≤ number_at (T.whole t.now) limit }
+    requires storage { (T.part t.now).storage ≡ Utf8 }
+    requires begun { Reaches (all_of Utf8 (T.part t.now).whole) at units }
+    requires inside { at < size_in Utf8 (T.part t.now).whole }
+    requires order { down len_utf8 (T.part t.now).whole at ≤ number_at (T.part t.now).whole limit }
     requires here { word ≡ slice_index (T.words t.now) (at / 8) }
-    ensures { Scanned (T.whole t.now) limit at result.begins result.units result.takes }
+    ensures { Scanned (T.part t.now).whole limit at result.begins result.units result.takes }
 {
     let stop = end_of_word(at, t.count());
     let mut begins = at;
@@ -95,13 +96,13 @@ pub(crate) fn scalar_over<T: Text, L: Ledger>(
     limit: Limit,
     steps: &mut Steps<L>,
 ) -> Scalar
-    requires storage { T.storage t.old ≡ Utf8 }
-    requires begun { Reaches Utf8 (T.whole t.old) from units }
-    requires within { from ≤ size_in Utf8 (T.whole t.old) }
-    requires order { down len_utf8 (T.whole t.old) from ≤ number_at (T.whole t.old) limit }
-    ensures stands { Stands (T.whole t.old) (number_at (T.whole t.old) limit) result.begins result.units result.takes }
+    requires storage { (T.part t.old).storage ≡ Utf8 }
+    requires begun { Reaches (all_of Utf8 (T.part t.old).whole) from units }
+    requires within { from ≤ size_in Utf8 (T.part t.old).whole }
+    requires order { down len_utf8 (T.part t.old).whole from ≤ number_at (T.part t.old).whole limit }
+    ensures stands { Stands (T.part t.old).whole (number_at (T.part t.old).whole limit) result.begins result.units result.takes }
     ensures kept { t.new ≡ t.old }
-    ensures cost { steps.new ≡ steps.old + words_through (T.whole t.old) (down len_utf8 (T.whole t.old) from) (number_at (T.whole t.old) limit) }
+    ensures cost { steps.new ≡ steps.old + words_through (T.part t.old).whole (down len_utf8 (T.part t.old).whole from) (number_at (T.part t.old).whole limit) }
 {
     let count = t.count();
     let mut at = from;

@@ -96,14 +96,14 @@ fn side_of<A: Attach>(
 
 /// `build`, where nobody asks for the steps.
 fn build_uncounted<T: Text, A: Attach, L: Ledger>(t: &mut T, draft: &mut Draft<'_, A>, blank: Blank)
-    requires storage { T.storage t.old ≡ Utf8 }
-    requires all { (T.first t.old ≡ 0) × (T.end t.old ≡ length (T.whole t.old)) }
+    requires storage { (T.part t.old).storage ≡ Utf8 }
+    requires all { ((T.part t.old).first ≡ 0) × ((T.part t.old).end ≡ length (T.part t.old).whole) }
     requires some { (1 ≤ T.STRIDE) × (T.STRIDE ≤ 4096) }
-    requires room { length draft.old.written + size16 (T.whole t.old) / T.STRIDE + 2 ≤ draft.old.heap.layout.capacity_words }
+    requires room { length draft.old.written + size16 (T.part t.old).whole / T.STRIDE + 2 ≤ draft.old.heap.layout.capacity_words }
     requires name { blank.name ≡ L.name }
     requires parts { blank.parts ≡ L.parts }
     requires one { blank.parts ≡ 1 }
-    ensures written { draft.new ≡ record draft.old { written = draft.old.written ++ crumbs (T.whole t.old) T.STRIDE } }
+    ensures written { draft.new ≡ record draft.old { written = draft.old.written ++ crumbs (T.part t.old).whole T.STRIDE } }
     ensures kept { t.new ≡ t.old }
 {
     let mut steps = Steps::<L>::from_blank(blank);
@@ -293,7 +293,7 @@ fn index_uncounted<T: Text, L: Ledger>(
 fn offset_uncounted<T: Text, L: Ledger>(t: &mut T, i: Index, blank: Blank) -> u64
     requires known { T.knows_crumbs t.old ≡ true }
     requires some { 1 ≤ T.STRIDE }
-    requires inside { position_of i ≤ size_in Utf8 (T.whole t.old) }
+    requires inside { position_of i ≤ size_in Utf8 (T.part t.old).whole }
     requires name { blank.name ≡ L.name }
     requires parts { blank.parts ≡ L.parts }
     requires one { blank.parts ≡ 1 }

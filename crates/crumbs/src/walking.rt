@@ -29,11 +29,11 @@ pub fn index_of_offset<T: Text, L: Ledger>(
 ) -> Result<Index, OutOfBounds>
     requires known { T.knows_crumbs t.old ≡ true }
     requires some { 1 ≤ T.STRIDE }
-    ensures index { IfOk result (λ i. (offset ≤ size16 (T.whole t.old)) × (i ≡ index16 (T.whole t.old) offset)) }
-    ensures refused { IfErr result (λ out. (size16 (T.whole t.old) < offset)
-        × (out ≡ record { position = offset; low = 0; high = size16 (T.whole t.old) })) }
+    ensures index { IfOk result (λ i. (offset ≤ size16 (T.part t.old).whole) × (i ≡ index16 (T.part t.old).whole offset)) }
+    ensures refused { IfErr result (λ out. (size16 (T.part t.old).whole < offset)
+        × (out ≡ record { position = offset; low = 0; high = size16 (T.part t.old).whole })) }
     ensures kept { t.new ≡ t.old }
-    ensures cost { IfOk result (λ i. steps.new ≡ steps.old + words_to_unit (T.whole t.old) T.STRIDE offset) }
+    ensures cost { IfOk result (λ i. steps.new ≡ steps.old + words_to_unit (T.part t.old).whole T.STRIDE offset) }
     ensures few { IfOk result (λ i. steps.new ≤ steps.old + T.STRIDE + 2) }
     ensures short { IfErr result (λ out. steps.new ≡ steps.old + 1) }
 {
@@ -74,15 +74,15 @@ pub fn index_of_offset<T: Text, L: Ledger>(
 pub fn offset_of_index<T: Text, L: Ledger>(t: &mut T, i: Index, steps: &mut Steps<L>) -> u64
     requires known { T.knows_crumbs t.old ≡ true }
     requires some { 1 ≤ T.STRIDE }
-    requires inside { position_of i ≤ size_in Utf8 (T.whole t.old) }
-    ensures offset { result ≡ other_offset len_utf8 len_utf16 (T.whole t.old) 0
-        (other_floor len_utf8 len_utf16 (T.whole t.old) (size_in Utf8 (T.whole t.old)) (index_place i)) }
+    requires inside { position_of i ≤ size_in Utf8 (T.part t.old).whole }
+    ensures offset { result ≡ other_offset len_utf8 len_utf16 (T.part t.old).whole 0
+        (other_floor len_utf8 len_utf16 (T.part t.old).whole (size_in Utf8 (T.part t.old).whole) (index_place i)) }
     ensures kept { t.new ≡ t.old }
-    ensures cost { (m crumb digits : ℕ) → IsLastCrumb (T.whole t.old) T.STRIDE i m crumb → size16 (T.whole t.old) / T.STRIDE < 2 ^ digits
-        → steps.new ≤ steps.old + words_to_byte (T.whole t.old) m (position_of i) + 2 + digits }
-    ensures counted { (m crumb digits : ℕ) → IsLastCrumb (T.whole t.old) T.STRIDE i m crumb → 2 ^ digits ≤ size16 (T.whole t.old) / T.STRIDE + 1
-        → steps.old + words_to_byte (T.whole t.old) m (position_of i) + 2 + digits ≤ steps.new }
-    ensures few { (digits : ℕ) → size16 (T.whole t.old) / T.STRIDE < 2 ^ digits → steps.new ≤ steps.old + T.STRIDE + 2 + digits }
+    ensures cost { (m crumb digits : ℕ) → IsLastCrumb (T.part t.old).whole T.STRIDE i m crumb → size16 (T.part t.old).whole / T.STRIDE < 2 ^ digits
+        → steps.new ≤ steps.old + words_to_byte (T.part t.old).whole m (position_of i) + 2 + digits }
+    ensures counted { (m crumb digits : ℕ) → IsLastCrumb (T.part t.old).whole T.STRIDE i m crumb → 2 ^ digits ≤ size16 (T.part t.old).whole / T.STRIDE + 1
+        → steps.old + words_to_byte (T.part t.old).whole m (position_of i) + 2 + digits ≤ steps.new }
+    ensures few { (digits : ℕ) → size16 (T.part t.old).whole / T.STRIDE < 2 ^ digits → steps.new ≤ steps.old + T.STRIDE + 2 + digits }
 {
     let _known = t.crumbs_known();
     let _count = t.count();

@@ -19,7 +19,7 @@ down-strict w t p q at_p at_q h =
     ⊎_elim (λ l. l) (λ g. absurd (omega (arith, at_p, at_q, h, start-mono w t (down w t q) (down w t p) g))) (cases_lt (down w t p) (down w t q))
 
 -- the next boundary isn't past a later one
-pub next_within : (e : Encoding) (b : List ℕ) (at next units to : ℕ) → Passes e b at next units → start (width_in e) b (down (width_in e) b at) ≡ at
+pub next_within : (e : Encoding) (b : List ℕ) (at next units to : ℕ) → Passes (part_of e b first end) at next units → start (width_in e) b (down (width_in e) b at) ≡ at
     → start (width_in e) b (down (width_in e) b to) ≡ to → at < to → next ≤ to
 next_within e b at next units to p is at_to h =
     let w = width_in e in
@@ -69,5 +69,5 @@ previous_within e b at q to p is at_to h =
     omega (arith, p.boundary, at_to, start-mono w b (down w b to) (down w b q) (omega (arith, p.number, below)))
 
 -- the bounds of a text are in order, by their numbers too
-pub order_of : (e : Encoding) (b : List ℕ) (first end low high : ℕ) → Bounds e b first end low high → first ≤ end
+pub order_of : (e : Encoding) (b : List ℕ) (first end low high : ℕ) → Bounds (part_of e b first end) low high → first ≤ end
 order_of e b first end low high is = omega (arith, is.first_is, is.end_is, down-mono (width_in e) b low high is.order)

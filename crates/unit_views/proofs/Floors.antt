@@ -14,8 +14,8 @@ use Rattle.std.specs.Option.{option_map}
 use Rattle.rounding.specs.Resolving.{Bounds, resolved, IsResolved, index_place, index_at, is_boundary}
 use Rattle.rounding.proofs.Ascii.{start-ascii, down-ascii, width_one, other_one}
 use Rattle.rounding.proofs.Places.{marked_place}
-use Rattle.unit_views.specs.declared.view.View.{View}
-use Rattle.unit_views.specs.declared.view.View.TheVariants.{Scalars, Units}
+use Rattle.unit_views.specs.declared.kind.ElementKind.{ElementKind}
+use Rattle.unit_views.specs.declared.kind.ElementKind.TheVariants.{Scalars, Units}
 use Rattle.unit_views.specs.Elements.{is_own, view_width, floor_of, offset_of, element_offset}
 use Rattle.unit_views.specs.Spots.{IsSpot, spot_offset}
 use Rattle.unit_views.proofs.Between.{down-mono, down-strict, number-start, boundary-start}
@@ -37,11 +37,11 @@ kept_cases w o b high i =
     inr (ltb-true _ _ inner.0, eqb-true _ _ parts.0, omega (arith, e.1, ltb-true _ _ inner.1)))
     (cond_zero ((start w b k == i.0) && (nat_lt (i.0) high && nat_lt (i.1) (o (get_or b k 0)))) (i.1))
 
-module _ (e : Encoding) (b : List ℕ) (first end index : ℕ) (order : first ≤ end) (inside : end ≤ length b) (small : start (width_in e) b end < 2 ^ 48) (met : IsResolved e b first end index) where
-  boundary_spot : (view : View) (past : ℕ) → is_own view e ≡ false
+module _ (e : Encoding) (b : List ℕ) (first end index : ℕ) (order : first ≤ end) (inside : end ≤ length b) (small : start (width_in e) b end < 2 ^ 48) (met : IsResolved (part_of e b first end) index) where
+  boundary_spot : (view : ElementKind) (past : ℕ) → is_own view e ≡ false
       → (past ≡ 0) ⊎ ((position_of index < start (width_in e) b end) × (start (width_in e) b (down (width_in e) b (position_of index)) ≡ position_of index)
       × (past < view_width view (get_or b (down (width_in e) b (position_of index)) 0)))
-      → IsSpot view e b first end (start (width_in e) b (down (width_in e) b (position_of index))) past
+      → IsSpot view (part_of e b first end) (start (width_in e) b (down (width_in e) b (position_of index))) past
   boundary_spot view past other kept =
       let w = width_in e in
       let v = view_width view in
@@ -61,7 +61,7 @@ module _ (e : Encoding) (b : List ℕ) (first end index : ℕ) (order : first �
       kept)
 
   other_spot : (encoding : Encoding) → other_width e ≡ width_in encoding → is_own (Units encoding) e ≡ false
-      → IsSpot (Units encoding) e b first end ((other_floor (width_in e) (other_width e) b (start (width_in e) b end) (index_place index)).0)
+      → IsSpot (Units encoding) (part_of e b first end) ((other_floor (width_in e) (other_width e) b (start (width_in e) b end) (index_place index)).0)
       ((other_floor (width_in e) (other_width e) b (start (width_in e) b end) (index_place index)).1)
   other_spot encoding same other =
       let w = width_in e in
@@ -70,8 +70,8 @@ module _ (e : Encoding) (b : List ℕ) (first end index : ℕ) (order : first �
       (⊎_elim (λ none. inl none) (λ h. inr (h.0, h.1, omega (arith, h.2, ap (λ f. f (get_or b (down w b (position_of index)) 0)) same)))
       (kept_cases w (other_width e) b (start w b end) i))
 
-pub floor-spot : (view : View) (e : Encoding) (b : List ℕ) (first end index : ℕ) → first ≤ end → end ≤ length b → start (width_in e) b end < 2 ^ 48 → IsResolved e b first end index
-    → IsSpot view e b first end ((floor_of view e b end (index_place index)).0) ((floor_of view e b end (index_place index)).1)
+pub floor-spot : (view : ElementKind) (e : Encoding) (b : List ℕ) (first end index : ℕ) → first ≤ end → end ≤ length b → start (width_in e) b end < 2 ^ 48 → IsResolved (part_of e b first end) index
+    → IsSpot view (part_of e b first end) ((floor_of view (part_of e b first end) (index_place index)).0) ((floor_of view (part_of e b first end) (index_place index)).1)
 floor-spot Scalars e b first end index order inside small met = boundary_spot e b first end index order inside small met Scalars 0 refl (inl refl)
 floor-spot (Units Utf8) Utf8 b first end index order inside small met = own_spot (Units Utf8) Utf8 b first end order inside small (position_of index) refl met.not_below met.not_above
 floor-spot (Units Utf8) Utf16 b first end index order inside small met = other_spot Utf16 b first end index order inside small met Utf8 refl refl
@@ -79,27 +79,27 @@ floor-spot (Units Utf16) Utf8 b first end index order inside small met = other_s
 floor-spot (Units Utf16) Utf16 b first end index order inside small met = own_spot (Units Utf16) Utf16 b first end order inside small (position_of index) refl met.not_below met.not_above
 
 -- the element of a resolved index, once its place is known
-pub record Floored (view : View) (e : Encoding) (b : List ℕ) (first end asked at past : ℕ) : Type 0 where
-  pub offset : element_offset view e b first end asked ≡ Some (spot_offset view e b first at past)
-  pub spot : IsSpot view e b first end at past
+pub record Floored (view : ElementKind) (e : Encoding) (b : List ℕ) (first end asked at past : ℕ) : Type 0 where
+  pub offset : element_offset view (part_of e b first end) asked ≡ Some (spot_offset view (part_of e b first end) at past)
+  pub spot : IsSpot view (part_of e b first end) at past
 
-pub floored : (view : View) (e : Encoding) (b : List ℕ) (first end asked index at past low high : ℕ) → Bounds e b first end low high → resolved e b first end asked ≡ Some (index_place index)
-    → IsResolved e b first end index → ◌≡◌ {A = Place} (at, past) (floor_of view e b end (index_place index)) → Floored view e b first end asked at past
+pub floored : (view : ElementKind) (e : Encoding) (b : List ℕ) (first end asked index at past low high : ℕ) → Bounds (part_of e b first end) low high → resolved (part_of e b first end) asked ≡ Some (index_place index)
+    → IsResolved (part_of e b first end) index → ◌≡◌ {A = Place} (at, past) (floor_of view (part_of e b first end) (index_place index)) → Floored view e b first end asked at past
 floored view e b first end asked index at past low high bounds found is_resolved place =
     let order : first ≤ end = omega (arith, bounds.first_is, bounds.end_is, down-mono (width_in e) b low high bounds.order) in
     let small : start (width_in e) b end < 2 ^ 48 = omega (arith, bounds.high_is, bounds.high_small) in
-    let spot : IsSpot view e b first end at past =
-    subst (λ p. IsSpot view e b first end (p.0) (p.1)) (sym place) (floor-spot view e b first end index order bounds.end_inside small is_resolved) in
+    let spot : IsSpot view (part_of e b first end) at past =
+    subst (λ p. IsSpot view (part_of e b first end) (p.0) (p.1)) (sym place) (floor-spot view e b first end index order bounds.end_inside small is_resolved) in
     record {
-      offset = ap (option_map (λ p. offset_of view e b first (floor_of view e b end p))) found ∙ ap Some (ap (offset_of view e b first) (sym place) ∙ spot.offset);
+      offset = ap (option_map (λ p. offset_of view (part_of e b first end) (floor_of view (part_of e b first end) p))) found ∙ ap Some (ap (offset_of view (part_of e b first end)) (sym place) ∙ spot.offset);
       spot = spot;
     }
 
 -- an index of a place says that place
-pub said : (e : Encoding) (b : List ℕ) (place : Place) (index position transcoded : ℕ) → place.1 < 4 → index ≡ index_at e b place → position ≡ position_of index → transcoded ≡ transcoded_of index
+pub said : (e : Encoding) (b : List ℕ) (place : Place) (index position transcoded : ℕ) → place.1 < 4 → index ≡ index_at (all_of e b) place → position ≡ position_of index → transcoded ≡ transcoded_of index
     → ◌≡◌ {A = Place} (position, transcoded) place
 said e b place index position transcoded few is one two =
-    ap (λ p. (p, transcoded)) one ∙ ap (λ x. (position_of index, x)) two ∙ ap index_place is ∙ marked_place e (place.0) (place.1) (is_boundary e b place) few
+    ap (λ p. (p, transcoded)) one ∙ ap (λ x. (position_of index, x)) two ∙ ap index_place is ∙ marked_place e (place.0) (place.1) (is_boundary (all_of e b) place) few
 
 -- in a text of ASCII each place is a boundary
 pub ascii_boundary : (e : Encoding) (b : List ℕ) → ((k : ℕ) → k < length b → get_or b k 0 < 0x80) → (end at : ℕ) → end ≤ length b → at ≤ start (width_in e) b end
@@ -131,8 +131,8 @@ module _ (e : Encoding) (b : List ℕ) (below : (k : ℕ) → k < length b → g
   other-ascii : ◌≡◌ {A = Place} (position_of index, 0) (other_floor (width_in e) (other_width e) b (start (width_in e) b end) (index_place index))
   other-ascii = ap (λ p. (p, 0)) (sym boundary-ascii) ∙ ap (λ x. (start (width_in e) b (down (width_in e) b (position_of index)), x)) (sym kept-ascii)
 
-pub floor-ascii : (view : View) (e : Encoding) (b : List ℕ) → ((k : ℕ) → k < length b → get_or b k 0 < 0x80) → (index end : ℕ) → end ≤ length b → position_of index ≤ start (width_in e) b end
-    → ◌≡◌ {A = Place} (position_of index, 0) (floor_of view e b end (index_place index))
+pub floor-ascii : (view : ElementKind) (e : Encoding) (b : List ℕ) → ((k : ℕ) → k < length b → get_or b k 0 < 0x80) → (index end : ℕ) → end ≤ length b → position_of index ≤ start (width_in e) b end
+    → ◌≡◌ {A = Place} (position_of index, 0) (floor_of view (part_of e b first end) (index_place index))
 floor-ascii Scalars e b below index end inside high = ap (λ p. (p, 0)) (sym (boundary-ascii e b below index end inside high))
 floor-ascii (Units Utf8) Utf8 b below index end inside high = refl
 floor-ascii (Units Utf8) Utf16 b below index end inside high = other-ascii Utf16 b below index end inside high

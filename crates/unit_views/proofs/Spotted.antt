@@ -8,19 +8,19 @@ use Rattle.text_spec.specs.Views.{width_in}
 use Rattle.text_spec.proofs.Downward.{down-length, down-greatest}
 use Rattle.text_spec.proofs.Walk.{start-mono, start-suc, start-strict, down-start, down-unique}
 use Rattle.rounding.specs.Resolving.{index_at}
-use Rattle.unit_views.specs.declared.view.View.{View}
-use Rattle.unit_views.specs.declared.view.View.TheVariants.{Scalars, Units}
+use Rattle.unit_views.specs.declared.kind.ElementKind.{ElementKind}
+use Rattle.unit_views.specs.declared.kind.ElementKind.TheVariants.{Scalars, Units}
 use Rattle.unit_views.specs.Elements.{is_own, view_width, element_count, offset_of, element_place}
 use Rattle.unit_views.specs.Spots.{IsSpot, elements_before, spot_offset}
 use Rattle.unit_views.proofs.Between.{down-mono, down-strict, number-start, boundary-start}
 use Rattle.unit_views.proofs.Widths.{view_some, view_most, own_width, other_is, start-ones, count-is}
 
 -- what the definitions say of a place
-record Placed (view : View) (e : Encoding) (b : List ℕ) (first at past offset : ℕ) : Type 0 where
-  pub offset_is : offset_of view e b first (at, past) ≡ offset
-  pub place_is : ◌≡◌ {A = Place} (element_place view e b first offset) (at, past)
+record Placed (view : ElementKind) (e : Encoding) (b : List ℕ) (first at past offset : ℕ) : Type 0 where
+  pub offset_is : offset_of view (part_of e b first end) (at, past) ≡ offset
+  pub place_is : ◌≡◌ {A = Place} (element_place view (part_of e b first end) offset) (at, past)
 
-across_placed : (view : View) (e : Encoding) (b : List ℕ) (first at past : ℕ) → is_own view e ≡ false
+across_placed : (view : ElementKind) (e : Encoding) (b : List ℕ) (first at past : ℕ) → is_own view e ≡ false
     → start (width_in e) b (down (width_in e) b at) ≡ at → first ≤ down (width_in e) b at
     → down (view_width view) b (start (view_width view) b (down (width_in e) b at) + past) ≡ down (width_in e) b at
     → (past ≡ 0) ⊎ (past < view_width view (get_or b (down (width_in e) b at) 0))
@@ -32,9 +32,9 @@ across_placed Scalars e b first at past other boundary after number few =
     let none : past ≡ 0 = ⊎_elim (λ l. l) (λ l. let one : past < 1 = l in omega arith) few in
     let offset : start (view_width Scalars) b k + past - start (view_width Scalars) b first ≡ k - first =
     omega (arith, none, start-ones b k inside, start-ones b first (omega (arith, after, inside))) in
-    let place : ◌≡◌ {A = Place} (element_place Scalars e b first (k - first)) (at, past) =
+    let place : ◌≡◌ {A = Place} (element_place Scalars (part_of e b first end) (k - first)) (at, past) =
     ap (λ n. (start w b n, 0)) {x = first + (k - first)} {y = k} (omega (arith, after)) ∙ ap (λ p. (p, 0)) boundary ∙ ap (λ n. (at, n)) (sym none) in
-    record { offset_is = sym offset; place_is = ap (element_place Scalars e b first) offset ∙ place }
+    record { offset_is = sym offset; place_is = ap (element_place Scalars (part_of e b first end)) offset ∙ place }
 across_placed (Units encoding) e b first at past other boundary after number few =
     let w = width_in e in
     let v = width_in encoding in
@@ -50,7 +50,7 @@ across_placed (Units encoding) e b first at past other boundary after number few
           ∙ ap (λ n. (start w b n, u - start v b n)) number ∙ ap (λ p. (p, u - start v b k)) boundary ∙ ap (λ n. (at, n)) rest;
     }
 
-own_placed : (view : View) (e : Encoding) (b : List ℕ) (first at : ℕ) → is_own view e ≡ true → start (width_in e) b first ≤ at
+own_placed : (view : ElementKind) (e : Encoding) (b : List ℕ) (first at : ℕ) → is_own view e ≡ true → start (width_in e) b first ≤ at
     → Placed view e b first at 0 (at - start (width_in e) b first)
 own_placed Scalars e b first at own low = absurd cc
 own_placed (Units encoding) e b first at own low = record {
@@ -58,14 +58,14 @@ own_placed (Units encoding) e b first at own low = record {
   place_is = cond-true _ _ _ own ∙ ap (λ p. (p, 0)) {x = start (width_in e) b first + (at - start (width_in e) b first)} {y = at} (omega (arith, low));
 }
 
-no_both : {A : Type 0} (view : View) (e : Encoding) → is_own view e ≡ true → is_own view e ≡ false → A
+no_both : {A : Type 0} (view : ElementKind) (e : Encoding) → is_own view e ≡ true → is_own view e ≡ false → A
 no_both view e own other = absurd cc
 
-module _ (view : View) (e : Encoding) (b : List ℕ) (first end : ℕ) (order : first ≤ end) (inside : end ≤ length b) (small : start (width_in e) b end < 2 ^ 48) where
+module _ (view : ElementKind) (e : Encoding) (b : List ℕ) (first end : ℕ) (order : first ≤ end) (inside : end ≤ length b) (small : start (width_in e) b end < 2 ^ 48) where
   -- the place `past` elements into a scalar
   pub across_spot : (at past : ℕ) → is_own view e ≡ false → start (width_in e) b (down (width_in e) b at) ≡ at → start (width_in e) b first ≤ at → at ≤ start (width_in e) b end
       → (past ≡ 0) ⊎ ((at < start (width_in e) b end) × (start (view_width view) b (down (width_in e) b at) + past < start (view_width view) b (suc (down (width_in e) b at))))
-      → IsSpot view e b first end at past
+      → IsSpot view (part_of e b first end) at past
   across_spot at past other boundary low high few =
       let w = width_in e in
       let v = view_width view in
@@ -85,13 +85,13 @@ module _ (view : View) (e : Encoding) (b : List ℕ) (first end : ℕ) (order : 
       (cases_lt at (start w b end)) in
       let placed = across_placed view e b first at past other boundary after number
       (⊎_elim (λ l. inr (width l)) (λ g. inl (ends (omega (arith, high, g)))) (cases_lt at (start w b end))) in
-      let elements : elements_before view e b at past ≡ start v b k + past = cond-false _ _ _ other in
-      let offset : spot_offset view e b first at past ≡ start v b k + past - start v b first = ap (λ n. n - start v b first) elements in
-      let place : ◌≡◌ {A = Place} (element_place view e b first (spot_offset view e b first at past)) (at, past) = ap (element_place view e b first) offset ∙ placed.place_is in
+      let elements : elements_before view (all_of e b) at past ≡ start v b k + past = cond-false _ _ _ other in
+      let offset : spot_offset view (part_of e b first end) at past ≡ start v b k + past - start v b first = ap (λ n. n - start v b first) elements in
+      let place : ◌≡◌ {A = Place} (element_place view (part_of e b first end) (spot_offset view (part_of e b first end) at past)) (at, past) = ap (element_place view (part_of e b first end)) offset ∙ placed.place_is in
       let total = count-is view b first end order inside in
-      let fewer : at < start w b end → spot_offset view e b first at past < element_count view b first end =
+      let fewer : at < start w b end → spot_offset view (part_of e b first end) at past < element_count view (part_of e b first end) =
       λ l. omega (arith, offset, total, more l, all, start-mono v b (suc k) end (before l)) in
-      let same : at ≡ start w b end → spot_offset view e b first at past ≡ element_count view b first end =
+      let same : at ≡ start w b end → spot_offset view (part_of e b first end) at past ≡ element_count view (part_of e b first end) =
       λ is. omega (arith, offset, total, ends is, ap (start v b) (is_end is)) in
       record {
         low = low;
@@ -108,20 +108,20 @@ module _ (view : View) (e : Encoding) (b : List ℕ) (first end : ℕ) (order : 
         is_before = fewer;
         offset = placed.offset_is ∙ sym offset;
         position = ap (λ p. p.0) place;
-        index = ap (index_at e b) (sym place);
+        index = ap (index_at (all_of e b)) (sym place);
       }
 
   -- a code unit of the storage
-  pub own_spot : (at : ℕ) → is_own view e ≡ true → start (width_in e) b first ≤ at → at ≤ start (width_in e) b end → IsSpot view e b first end at 0
+  pub own_spot : (at : ℕ) → is_own view e ≡ true → start (width_in e) b first ≤ at → at ≤ start (width_in e) b end → IsSpot view (part_of e b first end) at 0
   own_spot at own low high =
       let w = width_in e in
       let same = own_width view e own in
       let firsts : start (view_width view) b first ≡ start w b first = ap (λ f. start f b first) same in
       let ends : start (view_width view) b end ≡ start w b end = ap (λ f. start f b end) same in
-      let elements : elements_before view e b at 0 ≡ at = cond-true _ _ _ own in
-      let offset : spot_offset view e b first at 0 ≡ at - start w b first = omega (arith, elements, firsts) in
+      let elements : elements_before view (all_of e b) at 0 ≡ at = cond-true _ _ _ own in
+      let offset : spot_offset view (part_of e b first end) at 0 ≡ at - start w b first = omega (arith, elements, firsts) in
       let placed = own_placed view e b first at own low in
-      let place : ◌≡◌ {A = Place} (element_place view e b first (spot_offset view e b first at 0)) (at, 0) = ap (element_place view e b first) offset ∙ placed.place_is in
+      let place : ◌≡◌ {A = Place} (element_place view (part_of e b first end) (spot_offset view (part_of e b first end) at 0)) (at, 0) = ap (element_place view (part_of e b first end)) offset ∙ placed.place_is in
       let total = count-is view b first end order inside in
       record {
         low = low;
@@ -138,5 +138,5 @@ module _ (view : View) (e : Encoding) (b : List ℕ) (first end : ℕ) (order : 
         is_before = λ l. omega (arith, offset, total, firsts, ends, l, low);
         offset = placed.offset_is ∙ sym offset;
         position = ap (λ p. p.0) place;
-        index = ap (index_at e b) (sym place);
+        index = ap (index_at (all_of e b)) (sym place);
       }

@@ -10,15 +10,15 @@ use Rattle.text_spec.proofs.Widths.{width_some}
 use Rattle.word_units.specs.Running.{PassesRun}
 use Rattle.word_units.specs.Walking.{Passes}
 use Rattle.rounding.proofs.Ascii.{start-ascii, down-ascii, width_one}
-use Rattle.unit_views.specs.declared.view.View.{View}
-use Rattle.unit_views.specs.declared.view.View.TheVariants.{Scalars, Units}
+use Rattle.unit_views.specs.declared.kind.ElementKind.{ElementKind}
+use Rattle.unit_views.specs.declared.kind.ElementKind.TheVariants.{Scalars, Units}
 use Rattle.unit_views.specs.Elements.{is_own, view_width}
 use Rattle.unit_views.specs.Spots.{Passing, Backing, Walked, WalkedBack}
 use Rattle.unit_views.proofs.Between.{down-mono, down-strict, Previous, previous, previous_within}
 use Rattle.unit_views.proofs.Widths.{other_is, start-ones, view_some, start-most}
 
 -- what is passed, once its elements are counted
-run_passing : (view : View) (e : Encoding) (b : List ℕ) (at to room most next units scalars count : ℕ) → PassesRun e b at most next units scalars
+run_passing : (view : ElementKind) (e : Encoding) (b : List ℕ) (at to room most next units scalars count : ℕ) → PassesRun (part_of e b first end) at most next units scalars
     → start (view_width view) b (down (width_in e) b next) ≡ start (view_width view) b (down (width_in e) b at) + count → 1 ≤ count
     → (scalars ≡ 1) ⊎ ((count ≤ most) × (next ≤ at + most))
     → at + most ≤ to → most ≤ room → start (width_in e) b (down (width_in e) b at) ≡ at → start (width_in e) b (down (width_in e) b to) ≡ to → at < to
@@ -43,7 +43,7 @@ several : (units scalars count most next at : ℕ) → (scalars ≡ 1) ⊎ ((1 �
 several units scalars count most next at size same =
     ⊎_elim (λ is. inl is) (λ is. inr (⊎_elim (λ e. omega (arith, e, is.1, is.2)) (λ e. omega (arith, e, is.2)) same, is.3)) size
 
-pub its_units : (encoding e : Encoding) (b : List ℕ) (at next more : ℕ) → is_own (Units encoding) e ≡ false → Passes e b at next more
+pub its_units : (encoding e : Encoding) (b : List ℕ) (at next more : ℕ) → is_own (Units encoding) e ≡ false → Passes (part_of e b first end) at next more
     → start (width_in encoding) b (suc (down (width_in e) b at)) ≡ start (width_in encoding) b (down (width_in e) b at) + more
 its_units encoding e b at next more other p =
     let same = other_is encoding e other in
@@ -52,7 +52,7 @@ its_units encoding e b at next more other p =
     ∙ ap (λ f. start f b (down (width_in e) b at) + more) same
 
 -- one scalar back
-pub backing : (view : View) (e : Encoding) (b : List ℕ) (at to q units : ℕ) → start (width_in e) b (down (width_in e) b at) ≡ at
+pub backing : (view : ElementKind) (e : Encoding) (b : List ℕ) (at to q units : ℕ) → start (width_in e) b (down (width_in e) b at) ≡ at
     → start (width_in e) b (down (width_in e) b to) ≡ to → to < at → Previous e b at q
     → start (view_width view) b (suc (down (width_in e) b q)) ≡ start (view_width view) b (down (width_in e) b q) + units → 1 ≤ units → units ≤ 4
     → Backing (width_in e) (view_width view) b at to q units
@@ -68,7 +68,7 @@ backing view e b at to q units begins ends after p counted some few =
     }
 
 -- by the view that the call is given
-pub passing_scalars : (view : View) (e : Encoding) (b : List ℕ) (at to room most next units scalars : ℕ) → view ≡ Scalars → PassesRun e b at most next units scalars
+pub passing_scalars : (view : ElementKind) (e : Encoding) (b : List ℕ) (at to room most next units scalars : ℕ) → view ≡ Scalars → PassesRun (part_of e b first end) at most next units scalars
     → at + most ≤ to → most ≤ room → start (width_in e) b (down (width_in e) b at) ≡ at → start (width_in e) b (down (width_in e) b to) ≡ to → at < to
     → Passing (width_in e) (view_width view) b at to room next scalars
 passing_scalars view e b at to room most next units scalars is p fits small begins ends before =
@@ -79,8 +79,8 @@ passing_scalars view e b at to room most next units scalars is p fits small begi
     subst (λ v. Passing w (view_width v) b at to room next scalars) (sym is)
     (run_passing Scalars e b at to room most next units scalars scalars p counted some (several units scalars scalars most next at p.size (inl refl)) fits small begins ends before)
 
-pub passing_units : (view : View) (encoding e : Encoding) (b : List ℕ) (at to room most next units scalars : ℕ) → view ≡ Units encoding → is_own view e ≡ false
-    → PassesRun e b at most next units scalars → at + most ≤ to → most ≤ room
+pub passing_units : (view : ElementKind) (encoding e : Encoding) (b : List ℕ) (at to room most next units scalars : ℕ) → view ≡ Units encoding → is_own view e ≡ false
+    → PassesRun (part_of e b first end) at most next units scalars → at + most ≤ to → most ≤ room
     → start (width_in e) b (down (width_in e) b at) ≡ at → start (width_in e) b (down (width_in e) b to) ≡ to → at < to
     → Passing (width_in e) (view_width view) b at to room next units
 passing_units view encoding e b at to room most next units scalars is other p fits small begins ends before =
@@ -109,14 +109,14 @@ back e b at to q begins after inside is =
       scalar = omega (arith, p.number, down-length (width_in e) b at);
     }
 
-pub backing_scalars : (view : View) (e : Encoding) (b : List ℕ) (at to q : ℕ) → view ≡ Scalars → start (width_in e) b (down (width_in e) b at) ≡ at
+pub backing_scalars : (view : ElementKind) (e : Encoding) (b : List ℕ) (at to q : ℕ) → view ≡ Scalars → start (width_in e) b (down (width_in e) b at) ≡ at
     → start (width_in e) b (down (width_in e) b to) ≡ to → to < at → Back e b at q → Backing (width_in e) (view_width view) b at to q 1
 backing_scalars view e b at to q is begins ends after p =
     subst (λ v. Backing (width_in e) (view_width v) b at to q 1) (sym is)
     (backing Scalars e b at to q 1 begins ends after p.previous_is (start-suc (view_width Scalars) b (down (width_in e) b q) p.scalar) (omega arith) (omega arith))
 
-pub backing_units : (view : View) (encoding e : Encoding) (b : List ℕ) (at to q next more : ℕ) → view ≡ Units encoding → is_own view e ≡ false
-    → start (width_in e) b (down (width_in e) b at) ≡ at → start (width_in e) b (down (width_in e) b to) ≡ to → to < at → Back e b at q → Passes e b q next more
+pub backing_units : (view : ElementKind) (encoding e : Encoding) (b : List ℕ) (at to q next more : ℕ) → view ≡ Units encoding → is_own view e ≡ false
+    → start (width_in e) b (down (width_in e) b at) ≡ at → start (width_in e) b (down (width_in e) b to) ≡ to → to < at → Back e b at q → Passes (part_of e b first end) q next more
     → Backing (width_in e) (view_width view) b at to q more
 backing_units view encoding e b at to q next more is other begins ends after p passes =
     subst (λ v. Backing (width_in e) (view_width v) b at to q more) (sym is)
@@ -124,11 +124,11 @@ backing_units view encoding e b at to q next more is other begins ends after p p
     (its_units encoding e b q next more (subst (λ v. is_own v e ≡ false) is other) passes) passes.some passes.few)
 
 -- ---- in a text of ASCII
-pub view_one : (view : View) (c : ℕ) → c < 0x80 → view_width view c ≡ 1
+pub view_one : (view : ElementKind) (c : ℕ) → c < 0x80 → view_width view c ≡ 1
 view_one Scalars c h = refl
 view_one (Units encoding) c h = width_one encoding c h
 
-module _ (view : View) (e : Encoding) (b : List ℕ) (below : (k : ℕ) → k < length b → get_or b k 0 < 0x80) where
+module _ (view : ElementKind) (e : Encoding) (b : List ℕ) (below : (k : ℕ) → k < length b → get_or b k 0 < 0x80) where
   -- a place is its own number, and as many elements lie before it
   pub own_number : (p : ℕ) → p ≤ size_in e b → (p ≤ length b) × ((down (width_in e) b p ≡ p) × ((start (width_in e) b p ≡ p) × (start (view_width view) b p ≡ p)))
   own_number p h =
@@ -180,19 +180,19 @@ module _ (view : View) (e : Encoding) (b : List ℕ) (below : (k : ℕ) → k < 
       }
 
 -- ---- a walk on
-pub walked_end : (view : View) (e : Encoding) (b : List ℕ) (from to room at reached : ℕ) → Walked (width_in e) (view_width view) b from to room at reached
+pub walked_end : (view : ElementKind) (e : Encoding) (b : List ℕ) (from to room at reached : ℕ) → Walked (width_in e) (view_width view) b from to room at reached
     → to ≤ size_in e b → size_in e b < 2 ^ 48 → 2 ^ 50 ≤ room → at ≡ to
 walked_end view e b from to room at reached walked inside small large =
     ⊎_elim (λ is. is) (λ h. absurd (let most = start-most view e b (suc (down (width_in e) b at)) in
     omega (arith, h.1, most, start-le (width_in e) b (suc (down (width_in e) b at)), small, large))) walked.last
 
 -- how far it comes with one scalar more
-pub further : (view : View) (e : Encoding) (b : List ℕ) (at to room next units : ℕ) → Passing (width_in e) (view_width view) b at to room next units
+pub further : (view : ElementKind) (e : Encoding) (b : List ℕ) (at to room next units : ℕ) → Passing (width_in e) (view_width view) b at to room next units
     → to ≤ size_in e b → down (width_in e) b at + 1 ≤ down (width_in e) b to
 further view e b at to room next units p inside = omega (arith, p.number, down-mono (width_in e) b next to p.within)
 
 -- where there is no room for more
-pub full : (view : View) (e : Encoding) (b : List ℕ) (from at to room reached : ℕ) → start (width_in e) b (down (width_in e) b at) ≡ at → at < to → to ≤ size_in e b
+pub full : (view : ElementKind) (e : Encoding) (b : List ℕ) (from at to room reached : ℕ) → start (width_in e) b (down (width_in e) b at) ≡ at → at < to → to ≤ size_in e b
     → start (view_width view) b (down (width_in e) b from) + reached ≡ start (view_width view) b (down (width_in e) b at) → reached ≡ room
     → start (view_width view) b (down (width_in e) b from) + room < start (view_width view) b (suc (down (width_in e) b at))
 full view e b from at to room reached boundary before inside counted is =
@@ -201,6 +201,6 @@ full view e b from at to room reached boundary before inside counted is =
     omega (arith, counted, is, start-strict (view_width view) (view_some view) b k (suc k) (omega arith) (omega (arith, less)))
 
 -- a walk back counts no more than four times the place
-pub back_most : (view : View) (e : Encoding) (b : List ℕ) (from : ℕ) → from ≤ size_in e b → size_in e b < 2 ^ 48 → start (view_width view) b (down (width_in e) b from) < 2 ^ 50
+pub back_most : (view : ElementKind) (e : Encoding) (b : List ℕ) (from : ℕ) → from ≤ size_in e b → size_in e b < 2 ^ 48 → start (view_width view) b (down (width_in e) b from) < 2 ^ 50
 back_most view e b from inside small =
     omega (arith, start-most view e b (down (width_in e) b from), start-le (width_in e) b (down (width_in e) b from), small)

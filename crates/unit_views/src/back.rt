@@ -2,12 +2,12 @@
 ghost use Rattle.std.specs.Prelude.{◌≡◌, ◌+◌, ◌*◌, ◌<◌, ◌≤◌, ◌↔◌, true, false, None, IfSome};
 ghost use Rattle.text_spec.specs.Offsets.{start, down};
 ghost use Rattle.text_spec.specs.Views.{width_in, size_in};
-ghost use Rattle.unit_views.specs.declared.view.View.TheVariants.{Scalars};
+ghost use Rattle.unit_views.specs.declared.kind.ElementKind.TheVariants.{Scalars};
 ghost use Rattle.unit_views.specs.Elements.{is_own, view_width};
 ghost use Rattle.unit_views.specs.Spots.{WalkedBack};
 
 use crate::steps::back_elements;
-use crate::view::View;
+use crate::kind::ElementKind;
 use std::sync::ledger::Ledger;
 use word_units::{Steps, Text};
 
@@ -17,23 +17,23 @@ use word_units::{Steps, Text};
 /// Where the text is marked ASCII no word is read; else at most four a scalar, and two where the elements are scalars, in one pass.
 pub(crate) fn walk_back<T: Text, L: Ledger>(
     t: &mut T,
-    view: View,
+    view: ElementKind,
     from: u64,
     to: u64,
     room: u64,
     steps: &mut Steps<L>,
 ) -> Option<(u64, u64)>
-    requires across { is_own view (T.storage t.old) ≡ false }
+    requires across { is_own view (T.part t.old).storage ≡ false }
     requires order { to ≤ from }
-    requires inside { from ≤ size_in (T.storage t.old) (T.whole t.old) }
-    requires begun { start (width_in (T.storage t.old)) (T.whole t.old) (down (width_in (T.storage t.old)) (T.whole t.old) from) ≡ from }
-    requires ends { start (width_in (T.storage t.old)) (T.whole t.old) (down (width_in (T.storage t.old)) (T.whole t.old) to) ≡ to }
-    ensures walked { IfSome result (λ place. WalkedBack (width_in (T.storage t.old)) (view_width view) (T.whole t.old) from to room place.0 place.1) }
-    ensures cause { result ≡ None ↔ (start (view_width view) (T.whole t.old) (down (width_in (T.storage t.old)) (T.whole t.old) from)
-        < start (view_width view) (T.whole t.old) (down (width_in (T.storage t.old)) (T.whole t.old) to) + room) }
+    requires inside { from ≤ storage_size (T.part t.old) }
+    requires begun { IsBoundaryIn (T.part t.old) from }
+    requires ends { IsBoundaryIn (T.part t.old) to }
+    ensures walked { IfSome result (λ place. WalkedBack (width_in (T.part t.old).storage) (view_width view) (T.part t.old).whole from to room place.0 place.1) }
+    ensures cause { result ≡ None ↔ (start (view_width view) (T.part t.old).whole (scalars_before (T.part t.old) from)
+        < start (view_width view) (T.part t.old).whole (scalars_before (T.part t.old) to) + room) }
     ensures kept { t.new ≡ t.old }
-    ensures pass { steps.new + 4 * down (width_in (T.storage t.old)) (T.whole t.old) to
-        ≤ steps.old + 4 * down (width_in (T.storage t.old)) (T.whole t.old) from }
+    ensures pass { steps.new + 4 * scalars_before (T.part t.old) to
+        ≤ steps.old + 4 * scalars_before (T.part t.old) from }
     ensures near { steps.new ≤ steps.old + 4 * room }
     ensures scalars { view ≡ Scalars → steps.new ≤ steps.old + 2 * room }
     ensures unread { T.marked_ascii t.old ≡ true → steps.new ≡ steps.old }

@@ -2,7 +2,7 @@
 ghost use Rattle.std.specs.Prelude.{◌-◌, ◌≡◌, ◌*◌, ◌+◌, ◌<◌, ◌≤◌, ◌^◌, true, false, IfOk, IfErr, length, Some};
 ghost use Rattle.std.specs.Int.RustNames.{unsigned_abs};
 ghost use Rattle.rounding.specs.Resolving.{reads_other};
-ghost use Rattle.unit_views.specs.declared.view.View.TheVariants.{Scalars};
+ghost use Rattle.unit_views.specs.declared.kind.ElementKind.TheVariants.{Scalars};
 ghost use Rattle.unit_views.specs.Elements.{is_own, element_count, element_index, element_offset, IsAfter, IsBefore, IsMoved, IsDistance, IsStopped, IsMoveOut, IsEitherOut, IsOutOfRange};
 ghost use Rattle.text_spec.specs.Offsets.{start, down};
 ghost use Rattle.text_spec.specs.Views.{width_in};
@@ -10,7 +10,7 @@ ghost use Rattle.unit_views.specs.Spots.{IsSpot, spot_offset};
 
 use crate::spot::{Spot, index_of, leaving, spot_of};
 use crate::turns::{ahead, apart, behind, turn};
-use crate::view::{View, is_own};
+use crate::kind::{ElementKind, is_own};
 use crate::walk::elements_between;
 use index_words::Index;
 use rounding::{bounds, index_from};
@@ -18,17 +18,17 @@ use std::sync::ledger::Ledger;
 use word_units::{OutOfBounds, Steps, Text};
 
 /// The index of the first element, or of the end where there is none. No word is read.
-pub fn start<T: Text>(t: &T, view: View) -> Index
-    ensures { result ≡ element_index view (T.storage t.now) (T.whole t.now) (T.first t.now) 0 }
+pub fn start<T: Text>(t: &T, view: ElementKind) -> Index
+    ensures { result ≡ element_index view (T.part t.now) 0 }
 {
     let (low, _high) = bounds(t);
     index_from(t.encoding(), low, 0)
 }
 
 /// The index behind the last element. No word is read.
-pub fn end<T: Text>(t: &T, view: View) -> Index
-    ensures { result ≡ element_index view (T.storage t.now) (T.whole t.now) (T.first t.now)
-        (element_count view (T.whole t.now) (T.first t.now) (T.end t.now)) }
+pub fn end<T: Text>(t: &T, view: ElementKind) -> Index
+    ensures { result ≡ element_index view (T.part t.now)
+        (element_count view (T.part t.now)) }
 {
     let (_low, high) = bounds(t);
     index_from(t.encoding(), high, 0)
@@ -37,11 +37,11 @@ pub fn end<T: Text>(t: &T, view: View) -> Index
 /// The number of elements.
 ///
 /// Where the text is marked ASCII, or the elements are the storage's code units, no word is read; else at most two a scalar, in one pass.
-pub fn count<T: Text, L: Ledger>(t: &mut T, view: View, steps: &mut Steps<L>) -> u64
-    ensures value { result ≡ element_count view (T.whole t.old) (T.first t.old) (T.end t.old) }
+pub fn count<T: Text, L: Ledger>(t: &mut T, view: ElementKind, steps: &mut Steps<L>) -> u64
+    ensures value { result ≡ element_count view (T.part t.old) }
     ensures kept { t.new ≡ t.old }
-    ensures cost { steps.new ≤ steps.old + 2 * (T.end t.old - T.first t.old) }
-    ensures own { is_own view (T.storage t.old) ≡ true → steps.new ≡ steps.old }
+    ensures cost { steps.new ≤ steps.old + 2 * scalars_in (T.part t.old) }
+    ensures own { is_own view (T.part t.old).storage ≡ true → steps.new ≡ steps.old }
     ensures unread { T.marked_ascii t.old ≡ true → steps.new ≡ steps.old }
 {
     let (low, high) = bounds(t);
@@ -57,17 +57,17 @@ pub fn count<T: Text, L: Ledger>(t: &mut T, view: View, steps: &mut Steps<L>) ->
 /// text's bounds in code units of the storage.
 pub fn after<T: Text, L: Ledger>(
     t: &mut T,
-    view: View,
+    view: ElementKind,
     i: Index,
     steps: &mut Steps<L>,
 ) -> Result<Index, OutOfBounds>
-    ensures next { IfOk result (IsAfter view (T.storage t.old) (T.whole t.old) (T.first t.old) (T.end t.old) i) }
-    ensures refused { IfErr result (IsStopped view (T.storage t.old) (T.whole t.old) (T.first t.old) (T.end t.old) i
-        (element_count view (T.whole t.old) (T.first t.old) (T.end t.old))) }
+    ensures next { IfOk result (IsAfter (elements_of view (T.part t.old)) i) }
+    ensures refused { IfErr result (IsStopped (elements_of view (T.part t.old)) i
+        (element_count view (T.part t.old))) }
     ensures kept { t.new ≡ t.old }
-    ensures cost { steps.new ≤ steps.old + 2 * length (T.whole t.old) + 14 }
-    ensures near { reads_other (T.storage t.old) i ≡ false → steps.new ≤ steps.old + 14 }
-    ensures scalars { view ≡ Scalars → reads_other (T.storage t.old) i ≡ false → steps.new ≤ steps.old + 4 }
+    ensures cost { steps.new ≤ steps.old + 2 * length (T.part t.old).whole + 14 }
+    ensures near { reads_other (T.part t.old).storage i ≡ false → steps.new ≤ steps.old + 14 }
+    ensures scalars { view ≡ Scalars → reads_other (T.part t.old).storage i ≡ false → steps.new ≤ steps.old + 4 }
     ensures unread { T.marked_ascii t.old ≡ true → steps.new ≡ steps.old }
 {
     let spot = match spot_of(t, view, i, steps) {
@@ -86,16 +86,16 @@ pub fn after<T: Text, L: Ledger>(
 /// text's bounds in code units of the storage.
 pub fn before<T: Text, L: Ledger>(
     t: &mut T,
-    view: View,
+    view: ElementKind,
     i: Index,
     steps: &mut Steps<L>,
 ) -> Result<Index, OutOfBounds>
-    ensures previous { IfOk result (IsBefore view (T.storage t.old) (T.whole t.old) (T.first t.old) (T.end t.old) i) }
-    ensures refused { IfErr result (IsStopped view (T.storage t.old) (T.whole t.old) (T.first t.old) (T.end t.old) i 0) }
+    ensures previous { IfOk result (IsBefore (elements_of view (T.part t.old)) i) }
+    ensures refused { IfErr result (IsStopped (elements_of view (T.part t.old)) i 0) }
     ensures kept { t.new ≡ t.old }
-    ensures cost { steps.new ≤ steps.old + 2 * length (T.whole t.old) + 10 }
-    ensures near { reads_other (T.storage t.old) i ≡ false → steps.new ≤ steps.old + 10 }
-    ensures scalars { view ≡ Scalars → reads_other (T.storage t.old) i ≡ false → steps.new ≤ steps.old + 4 }
+    ensures cost { steps.new ≤ steps.old + 2 * length (T.part t.old).whole + 10 }
+    ensures near { reads_other (T.part t.old).storage i ≡ false → steps.new ≤ steps.old + 10 }
+    ensures scalars { view ≡ Scalars → reads_other (T.part t.old).storage i ≡ false → steps.new ≤ steps.old + 4 }
     ensures unread { T.marked_ascii t.old ≡ true → steps.new ≡ steps.old }
 {
     let spot = match spot_of(t, view, i, steps) {
@@ -114,17 +114,17 @@ pub fn before<T: Text, L: Ledger>(
 /// end, with the place that the index is rounded down to and the text's bounds in code units of the storage.
 pub fn offset_by<T: Text, L: Ledger>(
     t: &mut T,
-    view: View,
+    view: ElementKind,
     i: Index,
     n: i64,
     steps: &mut Steps<L>,
 ) -> Result<Index, OutOfBounds>
-    ensures there { IfOk result (IsMoved view (T.storage t.old) (T.whole t.old) (T.first t.old) (T.end t.old) i n) }
-    ensures refused { IfErr result (IsMoveOut view (T.storage t.old) (T.whole t.old) (T.first t.old) (T.end t.old) i n) }
+    ensures there { IfOk result (IsMoved (elements_of view (T.part t.old)) i n) }
+    ensures refused { IfErr result (IsMoveOut (elements_of view (T.part t.old)) i n) }
     ensures kept { t.new ≡ t.old }
-    ensures cost { steps.new ≤ steps.old + 2 * length (T.whole t.old) + 4 * (T.end t.old - T.first t.old) + 6 }
-    ensures pass { reads_other (T.storage t.old) i ≡ false → steps.new ≤ steps.old + 4 * (T.end t.old - T.first t.old) + 6 }
-    ensures near { reads_other (T.storage t.old) i ≡ false → steps.new ≤ steps.old + 4 * unsigned_abs n + 12 }
+    ensures cost { steps.new ≤ steps.old + 2 * length (T.part t.old).whole + 4 * scalars_in (T.part t.old) + 6 }
+    ensures pass { reads_other (T.part t.old).storage i ≡ false → steps.new ≤ steps.old + 4 * scalars_in (T.part t.old) + 6 }
+    ensures near { reads_other (T.part t.old).storage i ≡ false → steps.new ≤ steps.old + 4 * unsigned_abs n + 12 }
     ensures unread { T.marked_ascii t.old ≡ true → steps.new ≡ steps.old }
 {
     let spot = match spot_of(t, view, i, steps) {
@@ -142,17 +142,17 @@ pub fn offset_by<T: Text, L: Ledger>(
 /// Refused exactly where `resolve` refuses the first index or, where it doesn't, the second, with its numbers.
 pub fn distance<T: Text, L: Ledger>(
     t: &mut T,
-    view: View,
+    view: ElementKind,
     from: Index,
     to: Index,
     steps: &mut Steps<L>,
 ) -> Result<i64, OutOfBounds>
-    ensures elements { IfOk result (IsDistance view (T.storage t.old) (T.whole t.old) (T.first t.old) (T.end t.old) from to) }
-    ensures refused { IfErr result (IsEitherOut view (T.storage t.old) (T.whole t.old) (T.first t.old) (T.end t.old) from to) }
+    ensures elements { IfOk result (IsDistance (elements_of view (T.part t.old)) from to) }
+    ensures refused { IfErr result (IsEitherOut (T.part t.old) from to) }
     ensures kept { t.new ≡ t.old }
-    ensures cost { steps.new ≤ steps.old + 4 * length (T.whole t.old) + 2 * (T.end t.old - T.first t.old) + 8 }
-    ensures near { reads_other (T.storage t.old) from ≡ false → reads_other (T.storage t.old) to ≡ false
-        → steps.new ≤ steps.old + 2 * (T.end t.old - T.first t.old) + 8 }
+    ensures cost { steps.new ≤ steps.old + 4 * length (T.part t.old).whole + 2 * scalars_in (T.part t.old) + 8 }
+    ensures near { reads_other (T.part t.old).storage from ≡ false → reads_other (T.part t.old).storage to ≡ false
+        → steps.new ≤ steps.old + 2 * scalars_in (T.part t.old) + 8 }
     ensures unread { T.marked_ascii t.old ≡ true → steps.new ≡ steps.old }
 {
     let start = match spot_of(t, view, from, steps) {
@@ -167,10 +167,10 @@ pub fn distance<T: Text, L: Ledger>(
 }
 
 /// The text's first element, or its end where there is none.
-pub fn start_spot<T: Text>(t: &T, view: View) -> Spot
-    ensures spot { IsSpot view (T.storage t.now) (T.whole t.now) (T.first t.now) (T.end t.now) result.at result.past }
-    ensures offset { spot_offset view (T.storage t.now) (T.whole t.now) (T.first t.now) result.at result.past ≡ 0 }
-    ensures place { (result.at ≡ start (width_in (T.storage t.now)) (T.whole t.now) (T.first t.now)) × (result.past ≡ 0) }
+pub fn start_spot<T: Text>(t: &T, view: ElementKind) -> Spot
+    ensures spot { IsSpot view (T.part t.now) result.at result.past }
+    ensures offset { spot_offset view (T.part t.now) result.at result.past ≡ 0 }
+    ensures place { (result.at ≡ low_of (T.part t.now)) × (result.past ≡ 0) }
 {
     let (low, _high) = bounds(t);
     Spot { at: low, past: 0 }
@@ -179,23 +179,23 @@ pub fn start_spot<T: Text>(t: &T, view: View) -> Spot
 /// The index of the element `n` elements on from an element or, where that is past the end, how many lie on from it.
 pub fn index_ahead<T: Text, L: Ledger>(
     t: &mut T,
-    view: View,
+    view: ElementKind,
     spot: Spot,
     n: u64,
     steps: &mut Steps<L>,
 ) -> Result<Index, u64>
-    requires spot { IsSpot view (T.storage t.old) (T.whole t.old) (T.first t.old) (T.end t.old) spot.at spot.past }
+    requires spot { IsSpot view (T.part t.old) spot.at spot.past }
     requires fits { spot.past + n < 2 ^ 64 }
-    ensures index { IfOk result (λ r. r ≡ element_index view (T.storage t.old) (T.whole t.old) (T.first t.old)
-        (spot_offset view (T.storage t.old) (T.whole t.old) (T.first t.old) spot.at spot.past + n)) }
-    ensures inside { IfOk result (λ r. spot_offset view (T.storage t.old) (T.whole t.old) (T.first t.old) spot.at spot.past + n
-        ≤ element_count view (T.whole t.old) (T.first t.old) (T.end t.old)) }
-    ensures left { IfErr result (λ left. (spot_offset view (T.storage t.old) (T.whole t.old) (T.first t.old) spot.at spot.past + left
-        ≡ element_count view (T.whole t.old) (T.first t.old) (T.end t.old)) × (left < n)) }
+    ensures index { IfOk result (λ r. r ≡ element_index view (T.part t.old)
+        (spot_offset view (T.part t.old) spot.at spot.past + n)) }
+    ensures inside { IfOk result (λ r. spot_offset view (T.part t.old) spot.at spot.past + n
+        ≤ element_count view (T.part t.old)) }
+    ensures left { IfErr result (λ left. (spot_offset view (T.part t.old) spot.at spot.past + left
+        ≡ element_count view (T.part t.old)) × (left < n)) }
     ensures kept { t.new ≡ t.old }
-    ensures across { is_own view (T.storage t.old) ≡ false → steps.new ≤ steps.old + 2 * (T.end t.old - T.first t.old) }
-    ensures near { is_own view (T.storage t.old) ≡ false → steps.new ≤ steps.old + 2 * (spot.past + n) }
-    ensures own { is_own view (T.storage t.old) ≡ true → steps.new ≤ steps.old + 2 }
+    ensures across { is_own view (T.part t.old).storage ≡ false → steps.new ≤ steps.old + 2 * scalars_in (T.part t.old) }
+    ensures near { is_own view (T.part t.old).storage ≡ false → steps.new ≤ steps.old + 2 * (spot.past + n) }
+    ensures own { is_own view (T.part t.old).storage ≡ true → steps.new ≤ steps.old + 2 }
     ensures unread { T.marked_ascii t.old ≡ true → steps.new ≡ steps.old }
 {
     match ahead(t, view, spot, n, steps) {
@@ -210,22 +210,22 @@ pub fn index_ahead<T: Text, L: Ledger>(
 /// code units, at most two words a scalar are read in one pass up to the element; where they are, at most the two words beside it.
 pub fn index_of_offset<T: Text, L: Ledger>(
     t: &mut T,
-    view: View,
+    view: ElementKind,
     offset: u64,
     steps: &mut Steps<L>,
 ) -> Result<Index, OutOfBounds>
-    ensures index { IfOk result (λ r. r ≡ element_index view (T.storage t.old) (T.whole t.old) (T.first t.old) offset) }
-    ensures inside { IfOk result (λ r. offset ≤ element_count view (T.whole t.old) (T.first t.old) (T.end t.old)) }
-    ensures refused { IfErr result (λ out. element_count view (T.whole t.old) (T.first t.old) (T.end t.old) < offset) }
+    ensures index { IfOk result (λ r. r ≡ element_index view (T.part t.old) offset) }
+    ensures inside { IfOk result (λ r. offset ≤ element_count view (T.part t.old)) }
+    ensures refused { IfErr result (λ out. element_count view (T.part t.old) < offset) }
     ensures carries { IfErr result (λ out. out ≡ record {
       position = offset;
       low = 0;
-      high = element_count view (T.whole t.old) (T.first t.old) (T.end t.old);
+      high = element_count view (T.part t.old);
     }) }
     ensures kept { t.new ≡ t.old }
-    ensures across { is_own view (T.storage t.old) ≡ false → steps.new ≤ steps.old + 2 * (T.end t.old - T.first t.old) }
-    ensures near { is_own view (T.storage t.old) ≡ false → steps.new ≤ steps.old + 2 * offset }
-    ensures own { is_own view (T.storage t.old) ≡ true → steps.new ≤ steps.old + 2 }
+    ensures across { is_own view (T.part t.old).storage ≡ false → steps.new ≤ steps.old + 2 * scalars_in (T.part t.old) }
+    ensures near { is_own view (T.part t.old).storage ≡ false → steps.new ≤ steps.old + 2 * offset }
+    ensures own { is_own view (T.part t.old).storage ≡ true → steps.new ≤ steps.old + 2 }
     ensures unread { T.marked_ascii t.old ≡ true → steps.new ≡ steps.old }
 {
     let start = start_spot(t, view);
@@ -242,20 +242,20 @@ pub fn index_of_offset<T: Text, L: Ledger>(
 /// How many elements lie before an element, from a boundary on that isn't after it.
 pub fn elements_from<T: Text, L: Ledger>(
     t: &mut T,
-    view: View,
+    view: ElementKind,
     from: Spot,
     to: Spot,
     steps: &mut Steps<L>,
 ) -> u64
-    requires from { IsSpot view (T.storage t.old) (T.whole t.old) (T.first t.old) (T.end t.old) from.at from.past }
+    requires from { IsSpot view (T.part t.old) from.at from.past }
     requires begins { from.past ≡ 0 }
-    requires to { IsSpot view (T.storage t.old) (T.whole t.old) (T.first t.old) (T.end t.old) to.at to.past }
+    requires to { IsSpot view (T.part t.old) to.at to.past }
     requires order { from.at ≤ to.at }
-    ensures value { spot_offset view (T.storage t.old) (T.whole t.old) (T.first t.old) from.at from.past + result
-        ≡ spot_offset view (T.storage t.old) (T.whole t.old) (T.first t.old) to.at to.past }
+    ensures value { spot_offset view (T.part t.old) from.at from.past + result
+        ≡ spot_offset view (T.part t.old) to.at to.past }
     ensures kept { t.new ≡ t.old }
-    ensures cost { steps.new ≤ steps.old + 2 * (T.end t.old - T.first t.old) }
-    ensures pass { steps.new ≤ steps.old + 2 * (down (width_in (T.storage t.old)) (T.whole t.old) to.at - down (width_in (T.storage t.old)) (T.whole t.old) from.at) }
+    ensures cost { steps.new ≤ steps.old + 2 * scalars_in (T.part t.old) }
+    ensures pass { steps.new ≤ steps.old + 2 * (scalars_before (T.part t.old) to.at - scalars_before (T.part t.old) from.at) }
     ensures unread { T.marked_ascii t.old ≡ true → steps.new ≡ steps.old }
 {
     let (_low, _high) = bounds(t);
@@ -271,15 +271,15 @@ pub fn elements_from<T: Text, L: Ledger>(
 /// two a scalar in one pass up to the element, at most four beside it, and those that resolving an index of the other encoding reads.
 pub fn offset_of_index<T: Text, L: Ledger>(
     t: &mut T,
-    view: View,
+    view: ElementKind,
     i: Index,
     steps: &mut Steps<L>,
 ) -> Result<u64, OutOfBounds>
-    ensures offset { IfOk result (λ offset. element_offset view (T.storage t.old) (T.whole t.old) (T.first t.old) (T.end t.old) i ≡ Some offset) }
-    ensures refused { IfErr result (IsOutOfRange view (T.storage t.old) (T.whole t.old) (T.first t.old) (T.end t.old) i) }
+    ensures offset { IfOk result (λ offset. element_offset view (T.part t.old) i ≡ Some offset) }
+    ensures refused { IfErr result (IsOutOfRange (T.part t.old) i) }
     ensures kept { t.new ≡ t.old }
-    ensures cost { steps.new ≤ steps.old + 2 * length (T.whole t.old) + 2 * (T.end t.old - T.first t.old) + 4 }
-    ensures near { reads_other (T.storage t.old) i ≡ false → steps.new ≤ steps.old + 2 * (T.end t.old - T.first t.old) + 4 }
+    ensures cost { steps.new ≤ steps.old + 2 * length (T.part t.old).whole + 2 * scalars_in (T.part t.old) + 4 }
+    ensures near { reads_other (T.part t.old).storage i ≡ false → steps.new ≤ steps.old + 2 * scalars_in (T.part t.old) + 4 }
     ensures unread { T.marked_ascii t.old ≡ true → steps.new ≡ steps.old }
 {
     let start = start_spot(t, view);

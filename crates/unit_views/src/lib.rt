@@ -15,9 +15,9 @@ mod steps;
 mod tests;
 mod turns;
 pub mod utf8;
-mod view;
+mod kind;
 mod walk;
 
 pub use spot::{Spot, index_of, leaving, spot_of};
-pub use view::View;
+pub use kind::ElementKind;
 pub use walk::walk_on;

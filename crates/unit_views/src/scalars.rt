@@ -2,12 +2,12 @@
 ghost use Rattle.std.specs.Prelude.{◌-◌, ◌≡◌, ◌*◌, ◌+◌, ◌<◌, ◌≤◌, true, false, IfOk, IfErr, length};
 ghost use Rattle.std.specs.Int.RustNames.{unsigned_abs};
 ghost use Rattle.rounding.specs.Resolving.{reads_other};
-ghost use Rattle.unit_views.specs.declared.view.View.TheVariants.{Scalars};
+ghost use Rattle.unit_views.specs.declared.kind.ElementKind.TheVariants.{Scalars};
 ghost use Rattle.unit_views.specs.Elements.{element_count, element_index, IsElement, IsAfter, IsBefore, IsMoved, IsDistance, IsStopped, IsMoveOut, IsEitherOut};
 
 use crate::calls;
 use crate::spot::{leaving, spot_of};
-use crate::view::View;
+use crate::kind::ElementKind;
 use index_words::Index;
 use rounding::bounds;
 use std::sync::ledger::Ledger;
@@ -15,29 +15,29 @@ use word_units::{OutOfBounds, Steps, Text, scalar_at};
 
 /// The index of the first scalar, or of the end where there is none. No word is read.
 pub fn start<T: Text>(t: &T) -> Index
-    ensures { result ≡ element_index Scalars (T.storage t.now) (T.whole t.now) (T.first t.now) 0 }
+    ensures { result ≡ element_index Scalars (T.part t.now) 0 }
 {
-    calls::start(t, View::Scalars)
+    calls::start(t, ElementKind::Scalars)
 }
 
 /// The index behind the last scalar. No word is read.
 pub fn end<T: Text>(t: &T) -> Index
-    ensures { result ≡ element_index Scalars (T.storage t.now) (T.whole t.now) (T.first t.now)
-        (element_count Scalars (T.whole t.now) (T.first t.now) (T.end t.now)) }
+    ensures { result ≡ element_index Scalars (T.part t.now)
+        (element_count Scalars (T.part t.now)) }
 {
-    calls::end(t, View::Scalars)
+    calls::end(t, ElementKind::Scalars)
 }
 
 /// The number of scalars.
 ///
 /// Where the text is marked ASCII no word is read; else at most two a scalar, in one pass.
 pub fn count<T: Text, L: Ledger>(t: &mut T, steps: &mut Steps<L>) -> u64
-    ensures value { result ≡ element_count Scalars (T.whole t.old) (T.first t.old) (T.end t.old) }
+    ensures value { result ≡ element_count Scalars (T.part t.old) }
     ensures kept { t.new ≡ t.old }
-    ensures cost { steps.new ≤ steps.old + 2 * (T.end t.old - T.first t.old) }
+    ensures cost { steps.new ≤ steps.old + 2 * scalars_in (T.part t.old) }
     ensures unread { T.marked_ascii t.old ≡ true → steps.new ≡ steps.old }
 {
-    calls::count(t, View::Scalars, steps)
+    calls::count(t, ElementKind::Scalars, steps)
 }
 
 /// The scalar that an index is rounded down to.
@@ -49,20 +49,20 @@ pub fn element<T: Text, L: Ledger>(
     i: Index,
     steps: &mut Steps<L>,
 ) -> Result<char, OutOfBounds>
-    ensures element { IfOk result (IsElement Scalars (T.storage t.old) (T.whole t.old) (T.first t.old) (T.end t.old) i) }
-    ensures refused { IfErr result (IsStopped Scalars (T.storage t.old) (T.whole t.old) (T.first t.old) (T.end t.old) i
-        (element_count Scalars (T.whole t.old) (T.first t.old) (T.end t.old))) }
+    ensures element { IfOk result (IsElement (elements_of Scalars (T.part t.old)) i) }
+    ensures refused { IfErr result (IsStopped (elements_of Scalars (T.part t.old)) i
+        (element_count Scalars (T.part t.old))) }
     ensures kept { t.new ≡ t.old }
-    ensures cost { steps.new ≤ steps.old + 2 * length (T.whole t.old) + 6 }
-    ensures near { reads_other (T.storage t.old) i ≡ false → steps.new ≤ steps.old + 4 }
+    ensures cost { steps.new ≤ steps.old + 2 * length (T.part t.old).whole + 6 }
+    ensures near { reads_other (T.part t.old).storage i ≡ false → steps.new ≤ steps.old + 4 }
 {
     let (_low, high) = bounds(t);
-    let spot = match spot_of(t, View::Scalars, i, steps) {
+    let spot = match spot_of(t, ElementKind::Scalars, i, steps) {
         Ok(spot) => spot,
         Err(out) => return Err(out),
     };
     if spot.at == high {
-        return Err(leaving(t, View::Scalars, spot));
+        return Err(leaving(t, ElementKind::Scalars, spot));
     }
     let (scalar, _width) = scalar_at(t, spot.at, steps);
     Ok(scalar)
@@ -77,15 +77,15 @@ pub fn after<T: Text, L: Ledger>(
     i: Index,
     steps: &mut Steps<L>,
 ) -> Result<Index, OutOfBounds>
-    ensures next { IfOk result (IsAfter Scalars (T.storage t.old) (T.whole t.old) (T.first t.old) (T.end t.old) i) }
-    ensures refused { IfErr result (IsStopped Scalars (T.storage t.old) (T.whole t.old) (T.first t.old) (T.end t.old) i
-        (element_count Scalars (T.whole t.old) (T.first t.old) (T.end t.old))) }
+    ensures next { IfOk result (IsAfter (elements_of Scalars (T.part t.old)) i) }
+    ensures refused { IfErr result (IsStopped (elements_of Scalars (T.part t.old)) i
+        (element_count Scalars (T.part t.old))) }
     ensures kept { t.new ≡ t.old }
-    ensures cost { steps.new ≤ steps.old + 2 * length (T.whole t.old) + 14 }
-    ensures near { reads_other (T.storage t.old) i ≡ false → steps.new ≤ steps.old + 4 }
+    ensures cost { steps.new ≤ steps.old + 2 * length (T.part t.old).whole + 14 }
+    ensures near { reads_other (T.part t.old).storage i ≡ false → steps.new ≤ steps.old + 4 }
     ensures unread { T.marked_ascii t.old ≡ true → steps.new ≡ steps.old }
 {
-    calls::after(t, View::Scalars, i, steps)
+    calls::after(t, ElementKind::Scalars, i, steps)
 }
 
 /// The index of the scalar before the one that an index is rounded down to.
@@ -97,14 +97,14 @@ pub fn before<T: Text, L: Ledger>(
     i: Index,
     steps: &mut Steps<L>,
 ) -> Result<Index, OutOfBounds>
-    ensures previous { IfOk result (IsBefore Scalars (T.storage t.old) (T.whole t.old) (T.first t.old) (T.end t.old) i) }
-    ensures refused { IfErr result (IsStopped Scalars (T.storage t.old) (T.whole t.old) (T.first t.old) (T.end t.old) i 0) }
+    ensures previous { IfOk result (IsBefore (elements_of Scalars (T.part t.old)) i) }
+    ensures refused { IfErr result (IsStopped (elements_of Scalars (T.part t.old)) i 0) }
     ensures kept { t.new ≡ t.old }
-    ensures cost { steps.new ≤ steps.old + 2 * length (T.whole t.old) + 10 }
-    ensures near { reads_other (T.storage t.old) i ≡ false → steps.new ≤ steps.old + 4 }
+    ensures cost { steps.new ≤ steps.old + 2 * length (T.part t.old).whole + 10 }
+    ensures near { reads_other (T.part t.old).storage i ≡ false → steps.new ≤ steps.old + 4 }
     ensures unread { T.marked_ascii t.old ≡ true → steps.new ≡ steps.old }
 {
-    calls::before(t, View::Scalars, i, steps)
+    calls::before(t, ElementKind::Scalars, i, steps)
 }
 
 /// The index of the scalar `n` scalars behind the one that an index is rounded down to, or before it where `n` is negative.
@@ -119,15 +119,15 @@ pub fn offset_by<T: Text, L: Ledger>(
     n: i64,
     steps: &mut Steps<L>,
 ) -> Result<Index, OutOfBounds>
-    ensures there { IfOk result (IsMoved Scalars (T.storage t.old) (T.whole t.old) (T.first t.old) (T.end t.old) i n) }
-    ensures refused { IfErr result (IsMoveOut Scalars (T.storage t.old) (T.whole t.old) (T.first t.old) (T.end t.old) i n) }
+    ensures there { IfOk result (IsMoved (elements_of Scalars (T.part t.old)) i n) }
+    ensures refused { IfErr result (IsMoveOut (elements_of Scalars (T.part t.old)) i n) }
     ensures kept { t.new ≡ t.old }
-    ensures cost { steps.new ≤ steps.old + 2 * length (T.whole t.old) + 4 * (T.end t.old - T.first t.old) + 6 }
-    ensures pass { reads_other (T.storage t.old) i ≡ false → steps.new ≤ steps.old + 4 * (T.end t.old - T.first t.old) + 6 }
-    ensures near { reads_other (T.storage t.old) i ≡ false → steps.new ≤ steps.old + 4 * unsigned_abs n + 12 }
+    ensures cost { steps.new ≤ steps.old + 2 * length (T.part t.old).whole + 4 * scalars_in (T.part t.old) + 6 }
+    ensures pass { reads_other (T.part t.old).storage i ≡ false → steps.new ≤ steps.old + 4 * scalars_in (T.part t.old) + 6 }
+    ensures near { reads_other (T.part t.old).storage i ≡ false → steps.new ≤ steps.old + 4 * unsigned_abs n + 12 }
     ensures unread { T.marked_ascii t.old ≡ true → steps.new ≡ steps.old }
 {
-    calls::offset_by(t, View::Scalars, i, n, steps)
+    calls::offset_by(t, ElementKind::Scalars, i, n, steps)
 }
 
 /// How many scalars lie from the one that an index is rounded down to, to another: below 0 where that is before it.
@@ -140,13 +140,13 @@ pub fn distance<T: Text, L: Ledger>(
     to: Index,
     steps: &mut Steps<L>,
 ) -> Result<i64, OutOfBounds>
-    ensures scalars { IfOk result (IsDistance Scalars (T.storage t.old) (T.whole t.old) (T.first t.old) (T.end t.old) from to) }
-    ensures refused { IfErr result (IsEitherOut Scalars (T.storage t.old) (T.whole t.old) (T.first t.old) (T.end t.old) from to) }
+    ensures scalars { IfOk result (IsDistance (elements_of Scalars (T.part t.old)) from to) }
+    ensures refused { IfErr result (IsEitherOut (T.part t.old) from to) }
     ensures kept { t.new ≡ t.old }
-    ensures cost { steps.new ≤ steps.old + 4 * length (T.whole t.old) + 2 * (T.end t.old - T.first t.old) + 8 }
-    ensures near { reads_other (T.storage t.old) from ≡ false → reads_other (T.storage t.old) to ≡ false
-        → steps.new ≤ steps.old + 2 * (T.end t.old - T.first t.old) + 8 }
+    ensures cost { steps.new ≤ steps.old + 4 * length (T.part t.old).whole + 2 * scalars_in (T.part t.old) + 8 }
+    ensures near { reads_other (T.part t.old).storage from ≡ false → reads_other (T.part t.old).storage to ≡ false
+        → steps.new ≤ steps.old + 2 * scalars_in (T.part t.old) + 8 }
     ensures unread { T.marked_ascii t.old ≡ true → steps.new ≡ steps.old }
 {
-    calls::distance(t, View::Scalars, from, to, steps)
+    calls::distance(t, ElementKind::Scalars, from, to, steps)
 }

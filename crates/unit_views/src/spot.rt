@@ -4,11 +4,11 @@ ghost use Rattle.text_spec.specs.Offsets.{start};
 ghost use Rattle.text_spec.specs.Views.{width_in};
 ghost use Rattle.text_spec.specs.Rounding.{Place};
 ghost use Rattle.rounding.specs.Resolving.{IsResolved, reads_other, index_place, index_at};
-ghost use Rattle.unit_views.specs.declared.view.View.TheVariants.{Scalars};
+ghost use Rattle.unit_views.specs.declared.kind.ElementKind.TheVariants.{Scalars};
 ghost use Rattle.unit_views.specs.Elements.{is_own, element_offset, element_index, floor_of, leaves_text, IsOutOfRange};
 ghost use Rattle.unit_views.specs.Spots.{IsSpot, spot_offset};
 
-use crate::view::{View, is_own};
+use crate::kind::{ElementKind, is_own};
 use index_words::Index;
 use rounding::{bounds, index_from, resolve, scalar_floor, utf8_floor, utf16_floor};
 use std::sync::ledger::Ledger;
@@ -26,9 +26,9 @@ pub struct Spot {
 }
 
 /// The element that a resolved index is rounded down to, as a place.
-fn floor_spot<T: Text, L: Ledger>(t: &mut T, view: View, i: Index, steps: &mut Steps<L>) -> Spot
-    requires { IsResolved (T.storage t.old) (T.whole t.old) (T.first t.old) (T.end t.old) i }
-    ensures place { ◌≡◌ {A = Place} (result.at, result.past) (floor_of view (T.storage t.old) (T.whole t.old) (T.end t.old) (index_place i)) }
+fn floor_spot<T: Text, L: Ledger>(t: &mut T, view: ElementKind, i: Index, steps: &mut Steps<L>) -> Spot
+    requires { IsResolved (T.part t.old) i }
+    ensures place { ◌≡◌ {A = Place} (result.at, result.past) (floor_of view (T.part t.old) (index_place i)) }
     ensures kept { t.new ≡ t.old }
     ensures cost { steps.new ≤ steps.old + 4 }
     ensures scalars { view ≡ Scalars → steps.new ≤ steps.old + 2 }
@@ -42,9 +42,9 @@ fn floor_spot<T: Text, L: Ledger>(t: &mut T, view: View, i: Index, steps: &mut S
         };
     }
     let floor = match view {
-        View::Scalars => scalar_floor(t, i, steps),
-        View::Units(Encoding::Utf8) => utf8_floor(t, i, steps),
-        View::Units(Encoding::Utf16) => utf16_floor(t, i, steps),
+        ElementKind::Scalars => scalar_floor(t, i, steps),
+        ElementKind::Units(Encoding::Utf8) => utf8_floor(t, i, steps),
+        ElementKind::Units(Encoding::Utf16) => utf16_floor(t, i, steps),
     };
     Spot {
         at: floor.position(),
@@ -57,18 +57,18 @@ fn floor_spot<T: Text, L: Ledger>(t: &mut T, view: View, i: Index, steps: &mut S
 /// Refused exactly where `resolve` refuses the index, with its numbers.
 pub fn spot_of<T: Text, L: Ledger>(
     t: &mut T,
-    view: View,
+    view: ElementKind,
     i: Index,
     steps: &mut Steps<L>,
 ) -> Result<Spot, OutOfBounds>
-    ensures offset { IfOk result (λ s. element_offset view (T.storage t.old) (T.whole t.old) (T.first t.old) (T.end t.old) i
-        ≡ Some (spot_offset view (T.storage t.old) (T.whole t.old) (T.first t.old) s.at s.past)) }
-    ensures spot { IfOk result (λ s. IsSpot view (T.storage t.old) (T.whole t.old) (T.first t.old) (T.end t.old) s.at s.past) }
-    ensures refused { IfErr result (IsOutOfRange view (T.storage t.old) (T.whole t.old) (T.first t.old) (T.end t.old) i) }
+    ensures offset { IfOk result (λ s. element_offset view (T.part t.old) i
+        ≡ Some (spot_offset view (T.part t.old) s.at s.past)) }
+    ensures spot { IfOk result (λ s. IsSpot view (T.part t.old) s.at s.past) }
+    ensures refused { IfErr result (IsOutOfRange (T.part t.old) i) }
     ensures kept { t.new ≡ t.old }
-    ensures cost { steps.new ≤ steps.old + 2 * length (T.whole t.old) + 4 }
-    ensures near { reads_other (T.storage t.old) i ≡ false → steps.new ≤ steps.old + 4 }
-    ensures scalars { view ≡ Scalars → reads_other (T.storage t.old) i ≡ false → steps.new ≤ steps.old + 2 }
+    ensures cost { steps.new ≤ steps.old + 2 * length (T.part t.old).whole + 4 }
+    ensures near { reads_other (T.part t.old).storage i ≡ false → steps.new ≤ steps.old + 4 }
+    ensures scalars { view ≡ Scalars → reads_other (T.part t.old).storage i ≡ false → steps.new ≤ steps.old + 2 }
     ensures unread { T.marked_ascii t.old ≡ true → steps.new ≡ steps.old }
 {
     let (_low, _high) = bounds(t);
@@ -81,8 +81,8 @@ pub fn spot_of<T: Text, L: Ledger>(
 
 /// The index of a code unit of the storage, or of the text's end: scalar aligned where a scalar begins there.
 fn unit_index<T: Text, L: Ledger>(t: &mut T, at: u64, steps: &mut Steps<L>) -> Index
-    requires inside { at ≤ start (width_in (T.storage t.old)) (T.whole t.old) (T.end t.old) }
-    ensures index { result ≡ index_at (T.storage t.old) (T.whole t.old) (at, 0) }
+    requires inside { at ≤ high_of (T.part t.old) }
+    ensures index { result ≡ index_at (T.part t.old) (at, 0) }
     ensures kept { t.new ≡ t.old }
     ensures cost { steps.new ≤ steps.old + 2 }
     ensures unread { T.marked_ascii t.old ≡ true → steps.new ≡ steps.old }
@@ -102,16 +102,16 @@ fn unit_index<T: Text, L: Ledger>(t: &mut T, at: u64, steps: &mut Steps<L>) -> I
 /// The index of an element, marked for the storage's encoding alone; scalar aligned where it begins a scalar.
 pub fn index_of<T: Text, L: Ledger>(
     t: &mut T,
-    view: View,
+    view: ElementKind,
     spot: Spot,
     steps: &mut Steps<L>,
 ) -> Index
-    requires { IsSpot view (T.storage t.old) (T.whole t.old) (T.first t.old) (T.end t.old) spot.at spot.past }
-    ensures index { result ≡ element_index view (T.storage t.old) (T.whole t.old) (T.first t.old)
-        (spot_offset view (T.storage t.old) (T.whole t.old) (T.first t.old) spot.at spot.past) }
+    requires { IsSpot view (T.part t.old) spot.at spot.past }
+    ensures index { result ≡ element_index view (T.part t.old)
+        (spot_offset view (T.part t.old) spot.at spot.past) }
     ensures kept { t.new ≡ t.old }
     ensures cost { steps.new ≤ steps.old + 2 }
-    ensures across { is_own view (T.storage t.old) ≡ false → steps.new ≡ steps.old }
+    ensures across { is_own view (T.part t.old).storage ≡ false → steps.new ≡ steps.old }
     ensures unread { T.marked_ascii t.old ≡ true → steps.new ≡ steps.old }
 {
     let encoding = t.encoding();
@@ -122,10 +122,10 @@ pub fn index_of<T: Text, L: Ledger>(
 }
 
 /// What a walk from an element that leaves the text is refused with.
-pub fn leaving<T: Text>(t: &T, view: View, spot: Spot) -> OutOfBounds
-    requires { IsSpot view (T.storage t.now) (T.whole t.now) (T.first t.now) (T.end t.now) spot.at spot.past }
-    ensures { result ≡ leaves_text view (T.storage t.now) (T.whole t.now) (T.first t.now) (T.end t.now)
-        (spot_offset view (T.storage t.now) (T.whole t.now) (T.first t.now) spot.at spot.past) }
+pub fn leaving<T: Text>(t: &T, view: ElementKind, spot: Spot) -> OutOfBounds
+    requires { IsSpot view (T.part t.now) spot.at spot.past }
+    ensures { result ≡ leaves_text (elements_of view (T.part t.now))
+        (spot_offset view (T.part t.now) spot.at spot.past) }
 {
     OutOfBounds {
         position: spot.at,

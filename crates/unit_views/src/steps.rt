@@ -2,11 +2,11 @@
 ghost use Rattle.std.specs.Prelude.{◌≡◌, ◌+◌, ◌*◌, ◌<◌, ◌≤◌, false};
 ghost use Rattle.text_spec.specs.Offsets.{start, down};
 ghost use Rattle.text_spec.specs.Views.{width_in, size_in};
-ghost use Rattle.unit_views.specs.declared.view.View.TheVariants.{Scalars};
+ghost use Rattle.unit_views.specs.declared.kind.ElementKind.TheVariants.{Scalars};
 ghost use Rattle.unit_views.specs.Elements.{is_own, view_width};
 ghost use Rattle.unit_views.specs.Spots.{Passing, Backing};
 
-use crate::view::View;
+use crate::kind::ElementKind;
 use std::sync::ledger::Ledger;
 use word_units::{Steps, Text, boundary_at_or_before, pass_run, pass_scalar};
 
@@ -23,25 +23,25 @@ fn run_limit(at: u64, to: u64, room: u64) -> u64
 /// that end no later than `to` and for which there is room. At most two words are read.
 pub(crate) fn pass_elements<T: Text, L: Ledger>(
     t: &mut T,
-    view: View,
+    view: ElementKind,
     at: u64,
     to: u64,
     room: u64,
     steps: &mut Steps<L>,
 ) -> (u64, u64)
-    requires across { is_own view (T.storage t.old) ≡ false }
+    requires across { is_own view (T.part t.old).storage ≡ false }
     requires order { at < to }
-    requires inside { to ≤ size_in (T.storage t.old) (T.whole t.old) }
-    requires begun { start (width_in (T.storage t.old)) (T.whole t.old) (down (width_in (T.storage t.old)) (T.whole t.old) at) ≡ at }
-    requires ends { start (width_in (T.storage t.old)) (T.whole t.old) (down (width_in (T.storage t.old)) (T.whole t.old) to) ≡ to }
-    ensures passes { Passing (width_in (T.storage t.old)) (view_width view) (T.whole t.old) at to room result.0 result.1 }
+    requires inside { to ≤ storage_size (T.part t.old) }
+    requires begun { IsBoundaryIn (T.part t.old) at }
+    requires ends { IsBoundaryIn (T.part t.old) to }
+    ensures passes { Passing (width_in (T.part t.old).storage) (view_width view) (T.part t.old).whole at to room result.0 result.1 }
     ensures kept { t.new ≡ t.old }
     ensures cost { steps.new ≤ steps.old + 2 }
 {
     let (next, units, scalars) = pass_run(t, at, run_limit(at, to, room), steps);
     match view {
-        View::Scalars => (next, scalars),
-        View::Units(_) => (next, units),
+        ElementKind::Scalars => (next, scalars),
+        ElementKind::Units(_) => (next, units),
     }
 }
 
@@ -50,25 +50,25 @@ pub(crate) fn pass_elements<T: Text, L: Ledger>(
 /// At most four words are read, and at most two where the elements are scalars.
 pub(crate) fn back_elements<T: Text, L: Ledger>(
     t: &mut T,
-    view: View,
+    view: ElementKind,
     at: u64,
     to: u64,
     steps: &mut Steps<L>,
 ) -> (u64, u64)
-    requires across { is_own view (T.storage t.old) ≡ false }
+    requires across { is_own view (T.part t.old).storage ≡ false }
     requires order { to < at }
-    requires inside { at ≤ size_in (T.storage t.old) (T.whole t.old) }
-    requires begun { start (width_in (T.storage t.old)) (T.whole t.old) (down (width_in (T.storage t.old)) (T.whole t.old) at) ≡ at }
-    requires ends { start (width_in (T.storage t.old)) (T.whole t.old) (down (width_in (T.storage t.old)) (T.whole t.old) to) ≡ to }
-    ensures backs { Backing (width_in (T.storage t.old)) (view_width view) (T.whole t.old) at to result.0 result.1 }
+    requires inside { at ≤ storage_size (T.part t.old) }
+    requires begun { IsBoundaryIn (T.part t.old) at }
+    requires ends { IsBoundaryIn (T.part t.old) to }
+    ensures backs { Backing (width_in (T.part t.old).storage) (view_width view) (T.part t.old).whole at to result.0 result.1 }
     ensures kept { t.new ≡ t.old }
     ensures cost { steps.new ≤ steps.old + 4 }
     ensures scalars { view ≡ Scalars → steps.new ≤ steps.old + 2 }
 {
     let previous = boundary_at_or_before(t, at - 1, steps);
     match view {
-        View::Scalars => (previous, 1),
-        View::Units(_) => {
+        ElementKind::Scalars => (previous, 1),
+        ElementKind::Units(_) => {
             let (_next, units) = pass_scalar(t, previous, steps);
             (previous, units)
         }

@@ -1,7 +1,7 @@
 //! What no clause says: what the calls answer at texts written out by hand, over storage of either encoding.
 ghost use Rattle.std.specs.Prelude.{◌≡◌};
 
-use crate::{View, scalars, utf8};
+use crate::{ElementKind, scalars, utf8};
 use index_words::Index;
 use std::alloc::Global;
 use std::marker::Brand;
@@ -10,86 +10,86 @@ use std::sync::ledger::{Blank, Ledger};
 use text_spec::{Encoding, OutOfMemory};
 use word_units::{OutOfBounds, Steps, VecText};
 
-fn start_of(t: &VecText, view: View) -> Index {
+fn start_of(t: &VecText, view: ElementKind) -> Index {
     match view {
-        View::Scalars => scalars::start(t),
-        View::Units(_) => utf8::start(t),
+        ElementKind::Scalars => scalars::start(t),
+        ElementKind::Units(_) => utf8::start(t),
     }
 }
 
-fn end_of(t: &VecText, view: View) -> Index {
+fn end_of(t: &VecText, view: ElementKind) -> Index {
     match view {
-        View::Scalars => scalars::end(t),
-        View::Units(_) => utf8::end(t),
+        ElementKind::Scalars => scalars::end(t),
+        ElementKind::Units(_) => utf8::end(t),
     }
 }
 
 fn element<L: Ledger>(
     t: &mut VecText,
-    view: View,
+    view: ElementKind,
     i: Index,
     steps: &mut Steps<L>,
 ) -> Result<u32, OutOfBounds> {
     match view {
-        View::Scalars => Ok(scalars::element(t, i, steps)? as u32),
-        View::Units(_) => Ok(utf8::element(t, i, steps)? as u32),
+        ElementKind::Scalars => Ok(scalars::element(t, i, steps)? as u32),
+        ElementKind::Units(_) => Ok(utf8::element(t, i, steps)? as u32),
     }
 }
 
 fn after<L: Ledger>(
     t: &mut VecText,
-    view: View,
+    view: ElementKind,
     i: Index,
     steps: &mut Steps<L>,
 ) -> Result<u64, OutOfBounds> {
     match view {
-        View::Scalars => Ok(scalars::after(t, i, steps)?.bits()),
-        View::Units(_) => Ok(utf8::after(t, i, steps)?.bits()),
+        ElementKind::Scalars => Ok(scalars::after(t, i, steps)?.bits()),
+        ElementKind::Units(_) => Ok(utf8::after(t, i, steps)?.bits()),
     }
 }
 
 fn before<L: Ledger>(
     t: &mut VecText,
-    view: View,
+    view: ElementKind,
     i: Index,
     steps: &mut Steps<L>,
 ) -> Result<u64, OutOfBounds> {
     match view {
-        View::Scalars => Ok(scalars::before(t, i, steps)?.bits()),
-        View::Units(_) => Ok(utf8::before(t, i, steps)?.bits()),
+        ElementKind::Scalars => Ok(scalars::before(t, i, steps)?.bits()),
+        ElementKind::Units(_) => Ok(utf8::before(t, i, steps)?.bits()),
     }
 }
 
 fn offset_by<L: Ledger>(
     t: &mut VecText,
-    view: View,
+    view: ElementKind,
     i: Index,
     n: i64,
     steps: &mut Steps<L>,
 ) -> Result<u64, OutOfBounds> {
     match view {
-        View::Scalars => Ok(scalars::offset_by(t, i, n, steps)?.bits()),
-        View::Units(_) => Ok(utf8::offset_by(t, i, n, steps)?.bits()),
+        ElementKind::Scalars => Ok(scalars::offset_by(t, i, n, steps)?.bits()),
+        ElementKind::Units(_) => Ok(utf8::offset_by(t, i, n, steps)?.bits()),
     }
 }
 
 fn distance<L: Ledger>(
     t: &mut VecText,
-    view: View,
+    view: ElementKind,
     from: Index,
     to: Index,
     steps: &mut Steps<L>,
 ) -> Result<i64, OutOfBounds> {
     match view {
-        View::Scalars => scalars::distance(t, from, to, steps),
-        View::Units(_) => utf8::distance(t, from, to, steps),
+        ElementKind::Scalars => scalars::distance(t, from, to, steps),
+        ElementKind::Units(_) => utf8::distance(t, from, to, steps),
     }
 }
 
-fn count<L: Ledger>(t: &mut VecText, view: View, steps: &mut Steps<L>) -> u64 {
+fn count<L: Ledger>(t: &mut VecText, view: ElementKind, steps: &mut Steps<L>) -> u64 {
     match view {
-        View::Scalars => scalars::count(t, steps),
-        View::Units(_) => utf8::count(t, steps),
+        ElementKind::Scalars => scalars::count(t, steps),
+        ElementKind::Units(_) => utf8::count(t, steps),
     }
 }
 
@@ -100,7 +100,7 @@ type Row = (u32, u64);
 fn row_holds<L: Ledger>(
     rt: &impl Abort,
     t: &mut VecText,
-    view: View,
+    view: ElementKind,
     here: Index,
     row: Row,
     offset: u32,
@@ -148,7 +148,7 @@ fn row_holds<L: Ledger>(
 fn ends_hold<L: Ledger>(
     rt: &impl Abort,
     t: &mut VecText,
-    view: View,
+    view: ElementKind,
     behind: Index,
     wanted: u32,
     steps: &mut Steps<L>,
@@ -187,7 +187,7 @@ fn ends_hold<L: Ledger>(
 fn rows_hold_with<L: Ledger>(
     rt: &impl Abort,
     t: &mut VecText,
-    view: View,
+    view: ElementKind,
     rows: &[Row],
     blank: Blank,
 )
@@ -206,11 +206,11 @@ fn rows_hold_with<L: Ledger>(
 }
 
 /// The elements of a text, each with the index behind it.
-fn rows_hold(rt: &impl Abort, t: &mut VecText, view: View, rows: &[Row]) {
+fn rows_hold(rt: &impl Abort, t: &mut VecText, view: ElementKind, rows: &[Row]) {
     rows_hold_with::<Brand>(rt, t, view, rows, Blank::new(1));
 }
 
-const UTF8: View = View::Units(Encoding::Utf8);
+const UTF8: ElementKind = ElementKind::Units(Encoding::Utf8);
 
 #[test]
 fn every_call_in_utf8_storage(rt: HostRuntime) -> Result<(), OutOfMemory> {
@@ -220,7 +220,7 @@ fn every_call_in_utf8_storage(rt: HostRuntime) -> Result<(), OutOfMemory> {
     rows_hold(
         &rt,
         &mut t,
-        View::Scalars,
+        ElementKind::Scalars,
         &[
             (0x61, 65541),
             (0xE9, 196613),
@@ -249,7 +249,7 @@ fn every_call_in_utf8_storage(rt: HostRuntime) -> Result<(), OutOfMemory> {
     rows_hold(
         &rt,
         &mut t,
-        View::Scalars,
+        ElementKind::Scalars,
         &[(0xE9, 131077), (0x1F600, 393221)],
     );
     rows_hold(
@@ -266,7 +266,7 @@ fn every_call_in_utf8_storage(rt: HostRuntime) -> Result<(), OutOfMemory> {
         ],
     );
     let mut none = VecText::from_utf8(alloc, "")?.expect(&rt, "no byte");
-    rows_hold(&rt, &mut none, View::Scalars, &[]);
+    rows_hold(&rt, &mut none, ElementKind::Scalars, &[]);
     rows_hold(&rt, &mut none, UTF8, &[]);
     Ok(())
 }
@@ -282,7 +282,7 @@ fn every_call_in_utf16_storage(rt: HostRuntime) -> Result<(), OutOfMemory> {
     rows_hold(
         &rt,
         &mut t,
-        View::Scalars,
+        ElementKind::Scalars,
         &[
             (0xFFFD, 65545),
             (0x41, 131081),
@@ -310,7 +310,7 @@ fn every_call_in_utf16_storage(rt: HostRuntime) -> Result<(), OutOfMemory> {
     );
     // a pair alone
     let mut t = VecText::from_utf16(alloc, &[0xD83D, 0xDE00])?.expect(&rt, "two units");
-    rows_hold(&rt, &mut t, View::Scalars, &[(0x1F600, 131081)]);
+    rows_hold(&rt, &mut t, ElementKind::Scalars, &[(0x1F600, 131081)]);
     rows_hold(
         &rt,
         &mut t,
@@ -325,7 +325,7 @@ fn every_call_in_utf16_storage(rt: HostRuntime) -> Result<(), OutOfMemory> {
     rows_hold(
         &rt,
         &mut t,
-        View::Scalars,
+        ElementKind::Scalars,
         &[
             (0xFFFD, 65545),
             (0xE9, 131081),
@@ -352,7 +352,7 @@ fn every_call_in_utf16_storage(rt: HostRuntime) -> Result<(), OutOfMemory> {
         ],
     );
     let mut none = VecText::from_utf16(alloc, &[])?.expect(&rt, "no unit");
-    rows_hold(&rt, &mut none, View::Scalars, &[]);
+    rows_hold(&rt, &mut none, ElementKind::Scalars, &[]);
     rows_hold(&rt, &mut none, UTF8, &[]);
     Ok(())
 }
@@ -386,12 +386,12 @@ fn crosses_with<L: Ledger>(rt: &impl Abort, t: &mut VecText, k: u32, blank: Blan
                 "element {k}"
             );
             assert_eq!(rt;
-                after(t, View::Scalars, wide, &mut steps),
-                before(t, View::Scalars, last, &mut steps),
+                after(t, ElementKind::Scalars, wide, &mut steps),
+                before(t, ElementKind::Scalars, last, &mut steps),
                 "beside the last, {k}"
             );
             assert_eq!(rt;
-                offset_by(t, View::Scalars, last, -2, &mut steps),
+                offset_by(t, ElementKind::Scalars, last, -2, &mut steps),
                 Ok(wide.bits()),
                 "two back, {k}"
             );
@@ -438,7 +438,7 @@ fn walks_hold_with<L: Ledger>(rt: &impl Abort, t: &mut VecText, walks: &[Walk], 
     'walks: for (n, word) in walks {
         let there = Index::check(*word).expect(rt, "a word of an index");
         assert_eq!(rt;
-            offset_by(t, View::Scalars, first, *n, &mut steps),
+            offset_by(t, ElementKind::Scalars, first, *n, &mut steps),
             Ok(*word),
             "{n} on"
         );
@@ -480,7 +480,7 @@ fn words_of_ascii_are_passed_at_once(rt: HostRuntime) -> Result<(), OutOfMemory>
 fn refused_with<L: Ledger>(
     rt: &impl Abort,
     t: &mut VecText,
-    view: View,
+    view: ElementKind,
     rows: &[(u64, OutOfBounds)],
     blank: Blank,
 )
@@ -526,7 +526,7 @@ fn refused_with<L: Ledger>(
     }
 }
 
-fn refused(rt: &impl Abort, t: &mut VecText, view: View, rows: &[(u64, OutOfBounds)]) {
+fn refused(rt: &impl Abort, t: &mut VecText, view: ElementKind, rows: &[(u64, OutOfBounds)]) {
     refused_with::<Brand>(rt, t, view, rows, Blank::new(1));
 }
 
@@ -549,7 +549,7 @@ fn indices_out_of_range_are_refused(rt: HostRuntime) -> Result<(), OutOfMemory> 
         (458764, past(7, 6)),
         (262152, past(4, 3)),
     ];
-    refused(&rt, &mut t, View::Scalars, &rows);
+    refused(&rt, &mut t, ElementKind::Scalars, &rows);
     refused(&rt, &mut t, UTF8, &rows);
     let mut pair = VecText::from_utf16(alloc, &[0xD83D, 0xDE00])?.expect(&rt, "two units");
     let rows = [
@@ -558,7 +558,7 @@ fn indices_out_of_range_are_refused(rt: HostRuntime) -> Result<(), OutOfMemory> 
         (196620, past(3, 2)),
         (327684, past(5, 4)),
     ];
-    refused(&rt, &mut pair, View::Scalars, &rows);
+    refused(&rt, &mut pair, ElementKind::Scalars, &rows);
     refused(&rt, &mut pair, UTF8, &rows);
     Ok(())
 }

@@ -1,14 +1,14 @@
 //! From one element of a text to another.
 ghost use Rattle.std.specs.Prelude.{◌-◌, ◌≡◌, ◌*◌, ◌+◌, ◌<◌, ◌≤◌, ◌^◌, ◌↔◌, ◌⊎◌, true, false, None, IfSome, IfOk, IfErr, pos, ◌+ℤ◌, ◌<ℤ◌};
 ghost use Rattle.std.specs.Int.RustNames.{unsigned_abs};
-ghost use Rattle.unit_views.specs.declared.view.View.TheVariants.{Scalars};
+ghost use Rattle.unit_views.specs.declared.kind.ElementKind.TheVariants.{Scalars};
 ghost use Rattle.unit_views.specs.Elements.{is_own, element_count};
 ghost use Rattle.unit_views.specs.Spots.{IsSpot, spot_offset};
 
 use crate::back::walk_back;
 use crate::signs::signed_gap;
 use crate::spot::Spot;
-use crate::view::{View, is_own};
+use crate::kind::{ElementKind, is_own};
 use crate::walk::{elements_between, walk_on};
 use rounding::bounds;
 use std::sync::ledger::Ledger;
@@ -17,21 +17,21 @@ use word_units::{Steps, Text};
 /// The element `n` elements on, where the elements aren't the storage's code units.
 fn ahead_across<T: Text, L: Ledger>(
     t: &mut T,
-    view: View,
+    view: ElementKind,
     spot: Spot,
     n: u64,
     steps: &mut Steps<L>,
 ) -> Result<Spot, u64>
-    requires across { is_own view (T.storage t.old) ≡ false }
-    requires spot { IsSpot view (T.storage t.old) (T.whole t.old) (T.first t.old) (T.end t.old) spot.at spot.past }
+    requires across { is_own view (T.part t.old).storage ≡ false }
+    requires spot { IsSpot view (T.part t.old) spot.at spot.past }
     requires fits { spot.past + n < 2 ^ 64 }
-    ensures spot { IfOk result (λ s. IsSpot view (T.storage t.old) (T.whole t.old) (T.first t.old) (T.end t.old) s.at s.past) }
-    ensures moved { IfOk result (λ s. spot_offset view (T.storage t.old) (T.whole t.old) (T.first t.old) s.at s.past
-        ≡ spot_offset view (T.storage t.old) (T.whole t.old) (T.first t.old) spot.at spot.past + n) }
-    ensures left { IfErr result (λ left. (spot_offset view (T.storage t.old) (T.whole t.old) (T.first t.old) spot.at spot.past + left
-        ≡ element_count view (T.whole t.old) (T.first t.old) (T.end t.old)) × (left < n)) }
+    ensures spot { IfOk result (λ s. IsSpot view (T.part t.old) s.at s.past) }
+    ensures moved { IfOk result (λ s. spot_offset view (T.part t.old) s.at s.past
+        ≡ spot_offset view (T.part t.old) spot.at spot.past + n) }
+    ensures left { IfErr result (λ left. (spot_offset view (T.part t.old) spot.at spot.past + left
+        ≡ element_count view (T.part t.old)) × (left < n)) }
     ensures kept { t.new ≡ t.old }
-    ensures cost { steps.new ≤ steps.old + 2 * (T.end t.old - T.first t.old) }
+    ensures cost { steps.new ≤ steps.old + 2 * scalars_in (T.part t.old) }
     ensures near { steps.new ≤ steps.old + 2 * (spot.past + n) }
     ensures unread { T.marked_ascii t.old ≡ true → steps.new ≡ steps.old }
 {
@@ -50,22 +50,22 @@ fn ahead_across<T: Text, L: Ledger>(
 /// Where the text is marked ASCII, or the elements are the storage's code units, no word is read; else at most two a scalar, in one pass.
 pub(crate) fn ahead<T: Text, L: Ledger>(
     t: &mut T,
-    view: View,
+    view: ElementKind,
     spot: Spot,
     n: u64,
     steps: &mut Steps<L>,
 ) -> Result<Spot, u64>
-    requires spot { IsSpot view (T.storage t.old) (T.whole t.old) (T.first t.old) (T.end t.old) spot.at spot.past }
+    requires spot { IsSpot view (T.part t.old) spot.at spot.past }
     requires fits { spot.past + n < 2 ^ 64 }
-    ensures spot { IfOk result (λ s. IsSpot view (T.storage t.old) (T.whole t.old) (T.first t.old) (T.end t.old) s.at s.past) }
-    ensures moved { IfOk result (λ s. spot_offset view (T.storage t.old) (T.whole t.old) (T.first t.old) s.at s.past
-        ≡ spot_offset view (T.storage t.old) (T.whole t.old) (T.first t.old) spot.at spot.past + n) }
-    ensures left { IfErr result (λ left. (spot_offset view (T.storage t.old) (T.whole t.old) (T.first t.old) spot.at spot.past + left
-        ≡ element_count view (T.whole t.old) (T.first t.old) (T.end t.old)) × (left < n)) }
+    ensures spot { IfOk result (λ s. IsSpot view (T.part t.old) s.at s.past) }
+    ensures moved { IfOk result (λ s. spot_offset view (T.part t.old) s.at s.past
+        ≡ spot_offset view (T.part t.old) spot.at spot.past + n) }
+    ensures left { IfErr result (λ left. (spot_offset view (T.part t.old) spot.at spot.past + left
+        ≡ element_count view (T.part t.old)) × (left < n)) }
     ensures kept { t.new ≡ t.old }
-    ensures cost { steps.new ≤ steps.old + 2 * (T.end t.old - T.first t.old) }
+    ensures cost { steps.new ≤ steps.old + 2 * scalars_in (T.part t.old) }
     ensures near { steps.new ≤ steps.old + 2 * (spot.past + n) }
-    ensures own { is_own view (T.storage t.old) ≡ true → steps.new ≡ steps.old }
+    ensures own { is_own view (T.part t.old).storage ≡ true → steps.new ≡ steps.old }
     ensures unread { T.marked_ascii t.old ≡ true → steps.new ≡ steps.old }
 {
     let (_low, high) = bounds(t);
@@ -85,19 +85,19 @@ pub(crate) fn ahead<T: Text, L: Ledger>(
 /// The element `n` elements back, where the elements aren't the storage's code units.
 fn behind_across<T: Text, L: Ledger>(
     t: &mut T,
-    view: View,
+    view: ElementKind,
     spot: Spot,
     n: u64,
     steps: &mut Steps<L>,
 ) -> Option<Spot>
-    requires across { is_own view (T.storage t.old) ≡ false }
-    requires spot { IsSpot view (T.storage t.old) (T.whole t.old) (T.first t.old) (T.end t.old) spot.at spot.past }
-    ensures spot { IfSome result (λ s. IsSpot view (T.storage t.old) (T.whole t.old) (T.first t.old) (T.end t.old) s.at s.past) }
-    ensures moved { IfSome result (λ s. spot_offset view (T.storage t.old) (T.whole t.old) (T.first t.old) s.at s.past + n
-        ≡ spot_offset view (T.storage t.old) (T.whole t.old) (T.first t.old) spot.at spot.past) }
-    ensures cause { result ≡ None ↔ (spot_offset view (T.storage t.old) (T.whole t.old) (T.first t.old) spot.at spot.past < n) }
+    requires across { is_own view (T.part t.old).storage ≡ false }
+    requires spot { IsSpot view (T.part t.old) spot.at spot.past }
+    ensures spot { IfSome result (λ s. IsSpot view (T.part t.old) s.at s.past) }
+    ensures moved { IfSome result (λ s. spot_offset view (T.part t.old) s.at s.past + n
+        ≡ spot_offset view (T.part t.old) spot.at spot.past) }
+    ensures cause { result ≡ None ↔ (spot_offset view (T.part t.old) spot.at spot.past < n) }
     ensures kept { t.new ≡ t.old }
-    ensures cost { steps.new ≤ steps.old + 4 * (T.end t.old - T.first t.old) }
+    ensures cost { steps.new ≤ steps.old + 4 * scalars_in (T.part t.old) }
     ensures near { steps.new ≤ steps.old + 4 * n }
     ensures scalars { view ≡ Scalars → steps.new ≤ steps.old + 2 * n }
     ensures unread { T.marked_ascii t.old ≡ true → steps.new ≡ steps.old }
@@ -121,18 +121,18 @@ fn behind_across<T: Text, L: Ledger>(
 /// and two where the elements are scalars, in one pass.
 pub(crate) fn behind<T: Text, L: Ledger>(
     t: &mut T,
-    view: View,
+    view: ElementKind,
     spot: Spot,
     n: u64,
     steps: &mut Steps<L>,
 ) -> Option<Spot>
-    requires spot { IsSpot view (T.storage t.old) (T.whole t.old) (T.first t.old) (T.end t.old) spot.at spot.past }
-    ensures spot { IfSome result (λ s. IsSpot view (T.storage t.old) (T.whole t.old) (T.first t.old) (T.end t.old) s.at s.past) }
-    ensures moved { IfSome result (λ s. spot_offset view (T.storage t.old) (T.whole t.old) (T.first t.old) s.at s.past + n
-        ≡ spot_offset view (T.storage t.old) (T.whole t.old) (T.first t.old) spot.at spot.past) }
-    ensures cause { result ≡ None ↔ (spot_offset view (T.storage t.old) (T.whole t.old) (T.first t.old) spot.at spot.past < n) }
+    requires spot { IsSpot view (T.part t.old) spot.at spot.past }
+    ensures spot { IfSome result (λ s. IsSpot view (T.part t.old) s.at s.past) }
+    ensures moved { IfSome result (λ s. spot_offset view (T.part t.old) s.at s.past + n
+        ≡ spot_offset view (T.part t.old) spot.at spot.past) }
+    ensures cause { result ≡ None ↔ (spot_offset view (T.part t.old) spot.at spot.past < n) }
     ensures kept { t.new ≡ t.old }
-    ensures cost { steps.new ≤ steps.old + 4 * (T.end t.old - T.first t.old) }
+    ensures cost { steps.new ≤ steps.old + 4 * scalars_in (T.part t.old) }
     ensures near { steps.new ≤ steps.old + 4 * n }
     ensures scalars { view ≡ Scalars → steps.new ≤ steps.old + 2 * n }
     ensures unread { T.marked_ascii t.old ≡ true → steps.new ≡ steps.old }
@@ -153,20 +153,20 @@ pub(crate) fn behind<T: Text, L: Ledger>(
 /// The element `n` elements on, or back where `n` is negative; none where that is outside the text.
 pub(crate) fn turn<T: Text, L: Ledger>(
     t: &mut T,
-    view: View,
+    view: ElementKind,
     spot: Spot,
     n: i64,
     steps: &mut Steps<L>,
 ) -> Option<Spot>
-    requires spot { IsSpot view (T.storage t.old) (T.whole t.old) (T.first t.old) (T.end t.old) spot.at spot.past }
-    ensures spot { IfSome result (λ s. IsSpot view (T.storage t.old) (T.whole t.old) (T.first t.old) (T.end t.old) s.at s.past) }
-    ensures moved { IfSome result (λ s. pos (spot_offset view (T.storage t.old) (T.whole t.old) (T.first t.old) spot.at spot.past) +ℤ n
-        ≡ pos (spot_offset view (T.storage t.old) (T.whole t.old) (T.first t.old) s.at s.past)) }
-    ensures cause { result ≡ None ↔ (((pos (spot_offset view (T.storage t.old) (T.whole t.old) (T.first t.old) spot.at spot.past) +ℤ n) <ℤ pos 0)
-        ⊎ (pos (element_count view (T.whole t.old) (T.first t.old) (T.end t.old))
-        <ℤ (pos (spot_offset view (T.storage t.old) (T.whole t.old) (T.first t.old) spot.at spot.past) +ℤ n))) }
+    requires spot { IsSpot view (T.part t.old) spot.at spot.past }
+    ensures spot { IfSome result (λ s. IsSpot view (T.part t.old) s.at s.past) }
+    ensures moved { IfSome result (λ s. pos (spot_offset view (T.part t.old) spot.at spot.past) +ℤ n
+        ≡ pos (spot_offset view (T.part t.old) s.at s.past)) }
+    ensures cause { result ≡ None ↔ (((pos (spot_offset view (T.part t.old) spot.at spot.past) +ℤ n) <ℤ pos 0)
+        ⊎ (pos (element_count view (T.part t.old))
+        <ℤ (pos (spot_offset view (T.part t.old) spot.at spot.past) +ℤ n))) }
     ensures kept { t.new ≡ t.old }
-    ensures cost { steps.new ≤ steps.old + 4 * (T.end t.old - T.first t.old) }
+    ensures cost { steps.new ≤ steps.old + 4 * scalars_in (T.part t.old) }
     ensures near { steps.new ≤ steps.old + 4 * unsigned_abs n + 6 }
     ensures unread { T.marked_ascii t.old ≡ true → steps.new ≡ steps.old }
 {
@@ -186,17 +186,17 @@ pub(crate) fn turn<T: Text, L: Ledger>(
 /// pass from the earlier of the two.
 pub(crate) fn apart<T: Text, L: Ledger>(
     t: &mut T,
-    view: View,
+    view: ElementKind,
     from: Spot,
     to: Spot,
     steps: &mut Steps<L>,
 ) -> i64
-    requires from { IsSpot view (T.storage t.old) (T.whole t.old) (T.first t.old) (T.end t.old) from.at from.past }
-    requires to { IsSpot view (T.storage t.old) (T.whole t.old) (T.first t.old) (T.end t.old) to.at to.past }
-    ensures value { pos (spot_offset view (T.storage t.old) (T.whole t.old) (T.first t.old) from.at from.past) +ℤ result
-        ≡ pos (spot_offset view (T.storage t.old) (T.whole t.old) (T.first t.old) to.at to.past) }
+    requires from { IsSpot view (T.part t.old) from.at from.past }
+    requires to { IsSpot view (T.part t.old) to.at to.past }
+    ensures value { pos (spot_offset view (T.part t.old) from.at from.past) +ℤ result
+        ≡ pos (spot_offset view (T.part t.old) to.at to.past) }
     ensures kept { t.new ≡ t.old }
-    ensures cost { steps.new ≤ steps.old + 2 * (T.end t.old - T.first t.old) }
+    ensures cost { steps.new ≤ steps.old + 2 * scalars_in (T.part t.old) }
     ensures unread { T.marked_ascii t.old ≡ true → steps.new ≡ steps.old }
 {
     let (_low, _high) = bounds(t);

@@ -6,13 +6,13 @@ ghost use Rattle.unit_views.specs.Spots.{IsSpot, spot_offset};
 ghost use Rattle.std.specs.Prelude.{◌-◌, slice_index, ◌≡◌, ◌*◌, ◌+◌, ◌<◌, ◌≤◌, true, false, IfOk, IfErr, length};
 ghost use Rattle.std.specs.Int.RustNames.{unsigned_abs};
 ghost use Rattle.rounding.specs.Resolving.{reads_other};
-ghost use Rattle.unit_views.specs.declared.view.View.TheVariants.{Units};
+ghost use Rattle.unit_views.specs.declared.kind.ElementKind.TheVariants.{Units};
 ghost use Rattle.text_spec.specs.declared.encoding.Encoding.TheVariants.{Utf8};
 ghost use Rattle.unit_views.specs.Elements.{elements, element_count, element_index, IsElement, IsAfter, IsBefore, IsMoved, IsDistance, IsStopped, IsMoveOut, IsEitherOut};
 
 use crate::calls;
 use crate::spot::{Spot, leaving, spot_of};
-use crate::view::View;
+use crate::kind::ElementKind;
 use index_words::Index;
 use rounding::bounds;
 use std::sync::ledger::Ledger;
@@ -21,30 +21,30 @@ use word_units::{OutOfBounds, Steps, Text, byte_at, scalar_at};
 
 /// The index of the first code unit, or of the end where there is none. No word is read.
 pub fn start<T: Text>(t: &T) -> Index
-    ensures { result ≡ element_index (Units Utf8) (T.storage t.now) (T.whole t.now) (T.first t.now) 0 }
+    ensures { result ≡ element_index (Units Utf8) (T.part t.now) 0 }
 {
-    calls::start(t, View::Units(Encoding::Utf8))
+    calls::start(t, ElementKind::Units(Encoding::Utf8))
 }
 
 /// The index behind the last code unit. No word is read.
 pub fn end<T: Text>(t: &T) -> Index
-    ensures { result ≡ element_index (Units Utf8) (T.storage t.now) (T.whole t.now) (T.first t.now)
-        (element_count (Units Utf8) (T.whole t.now) (T.first t.now) (T.end t.now)) }
+    ensures { result ≡ element_index (Units Utf8) (T.part t.now)
+        (element_count (Units Utf8) (T.part t.now)) }
 {
-    calls::end(t, View::Units(Encoding::Utf8))
+    calls::end(t, ElementKind::Units(Encoding::Utf8))
 }
 
 /// The number of code units.
 ///
 /// In UTF-8 storage, and where the text is marked ASCII, no word is read; else at most two a scalar, in one pass.
 pub fn count<T: Text, L: Ledger>(t: &mut T, steps: &mut Steps<L>) -> u64
-    ensures value { result ≡ element_count (Units Utf8) (T.whole t.old) (T.first t.old) (T.end t.old) }
+    ensures value { result ≡ element_count (Units Utf8) (T.part t.old) }
     ensures kept { t.new ≡ t.old }
-    ensures cost { steps.new ≤ steps.old + 2 * (T.end t.old - T.first t.old) }
-    ensures own { T.storage t.old ≡ Utf8 → steps.new ≡ steps.old }
+    ensures cost { steps.new ≤ steps.old + 2 * scalars_in (T.part t.old) }
+    ensures own { (T.part t.old).storage ≡ Utf8 → steps.new ≡ steps.old }
     ensures unread { T.marked_ascii t.old ≡ true → steps.new ≡ steps.old }
 {
-    calls::count(t, View::Units(Encoding::Utf8), steps)
+    calls::count(t, ElementKind::Units(Encoding::Utf8), steps)
 }
 
 /// The code unit that an index is rounded down to.
@@ -56,30 +56,30 @@ pub fn element<T: Text, L: Ledger>(
     i: Index,
     steps: &mut Steps<L>,
 ) -> Result<u8, OutOfBounds>
-    ensures element { IfOk result (IsElement (Units Utf8) (T.storage t.old) (T.whole t.old) (T.first t.old) (T.end t.old) i) }
-    ensures refused { IfErr result (IsStopped (Units Utf8) (T.storage t.old) (T.whole t.old) (T.first t.old) (T.end t.old) i
-        (element_count (Units Utf8) (T.whole t.old) (T.first t.old) (T.end t.old))) }
+    ensures element { IfOk result (IsElement (elements_of (Units Utf8) (T.part t.old)) i) }
+    ensures refused { IfErr result (IsStopped (elements_of (Units Utf8) (T.part t.old)) i
+        (element_count (Units Utf8) (T.part t.old))) }
     ensures kept { t.new ≡ t.old }
-    ensures cost { steps.new ≤ steps.old + 2 * length (T.whole t.old) + 6 }
-    ensures near { reads_other (T.storage t.old) i ≡ false → steps.new ≤ steps.old + 6 }
+    ensures cost { steps.new ≤ steps.old + 2 * length (T.part t.old).whole + 6 }
+    ensures near { reads_other (T.part t.old).storage i ≡ false → steps.new ≤ steps.old + 6 }
 {
     let (_low, high) = bounds(t);
-    let spot = match spot_of(t, View::Units(Encoding::Utf8), i, steps) {
+    let spot = match spot_of(t, ElementKind::Units(Encoding::Utf8), i, steps) {
         Ok(spot) => spot,
         Err(out) => return Err(out),
     };
     if spot.at == high {
-        return Err(leaving(t, View::Units(Encoding::Utf8), spot));
+        return Err(leaving(t, ElementKind::Units(Encoding::Utf8), spot));
     }
     Ok(byte_here(t, spot, steps))
 }
 
 /// The code unit at an element that isn't the end.
 fn byte_here<T: Text, L: Ledger>(t: &mut T, spot: Spot, steps: &mut Steps<L>) -> u8
-    requires spot { IsSpot (Units Utf8) (T.storage t.old) (T.whole t.old) (T.first t.old) (T.end t.old) spot.at spot.past }
-    requires inside { spot.at < start (width_in (T.storage t.old)) (T.whole t.old) (T.end t.old) }
-    ensures value { result ≡ slice_index (elements (Units Utf8) (part (T.whole t.old) (T.first t.old) (T.end t.old)))
-        (spot_offset (Units Utf8) (T.storage t.old) (T.whole t.old) (T.first t.old) spot.at spot.past) }
+    requires spot { IsSpot (Units Utf8) (T.part t.old) spot.at spot.past }
+    requires inside { spot.at < high_of (T.part t.old) }
+    ensures value { result ≡ slice_index (elements (Units Utf8) (text_in (T.part t.old)))
+        (spot_offset (Units Utf8) (T.part t.old) spot.at spot.past) }
     ensures kept { t.new ≡ t.old }
     ensures cost { steps.new ≤ steps.old + 2 }
 {
@@ -111,15 +111,15 @@ pub fn after<T: Text, L: Ledger>(
     i: Index,
     steps: &mut Steps<L>,
 ) -> Result<Index, OutOfBounds>
-    ensures next { IfOk result (IsAfter (Units Utf8) (T.storage t.old) (T.whole t.old) (T.first t.old) (T.end t.old) i) }
-    ensures refused { IfErr result (IsStopped (Units Utf8) (T.storage t.old) (T.whole t.old) (T.first t.old) (T.end t.old) i
-        (element_count (Units Utf8) (T.whole t.old) (T.first t.old) (T.end t.old))) }
+    ensures next { IfOk result (IsAfter (elements_of (Units Utf8) (T.part t.old)) i) }
+    ensures refused { IfErr result (IsStopped (elements_of (Units Utf8) (T.part t.old)) i
+        (element_count (Units Utf8) (T.part t.old))) }
     ensures kept { t.new ≡ t.old }
-    ensures cost { steps.new ≤ steps.old + 2 * length (T.whole t.old) + 14 }
-    ensures near { reads_other (T.storage t.old) i ≡ false → steps.new ≤ steps.old + 14 }
+    ensures cost { steps.new ≤ steps.old + 2 * length (T.part t.old).whole + 14 }
+    ensures near { reads_other (T.part t.old).storage i ≡ false → steps.new ≤ steps.old + 14 }
     ensures unread { T.marked_ascii t.old ≡ true → steps.new ≡ steps.old }
 {
-    calls::after(t, View::Units(Encoding::Utf8), i, steps)
+    calls::after(t, ElementKind::Units(Encoding::Utf8), i, steps)
 }
 
 /// The index of the code unit before the one that an index is rounded down to.
@@ -131,14 +131,14 @@ pub fn before<T: Text, L: Ledger>(
     i: Index,
     steps: &mut Steps<L>,
 ) -> Result<Index, OutOfBounds>
-    ensures previous { IfOk result (IsBefore (Units Utf8) (T.storage t.old) (T.whole t.old) (T.first t.old) (T.end t.old) i) }
-    ensures refused { IfErr result (IsStopped (Units Utf8) (T.storage t.old) (T.whole t.old) (T.first t.old) (T.end t.old) i 0) }
+    ensures previous { IfOk result (IsBefore (elements_of (Units Utf8) (T.part t.old)) i) }
+    ensures refused { IfErr result (IsStopped (elements_of (Units Utf8) (T.part t.old)) i 0) }
     ensures kept { t.new ≡ t.old }
-    ensures cost { steps.new ≤ steps.old + 2 * length (T.whole t.old) + 10 }
-    ensures near { reads_other (T.storage t.old) i ≡ false → steps.new ≤ steps.old + 10 }
+    ensures cost { steps.new ≤ steps.old + 2 * length (T.part t.old).whole + 10 }
+    ensures near { reads_other (T.part t.old).storage i ≡ false → steps.new ≤ steps.old + 10 }
     ensures unread { T.marked_ascii t.old ≡ true → steps.new ≡ steps.old }
 {
-    calls::before(t, View::Units(Encoding::Utf8), i, steps)
+    calls::before(t, ElementKind::Units(Encoding::Utf8), i, steps)
 }
 
 /// The index of the code unit `n` code units behind the one that an index is rounded down to, or before it where `n` is negative.
@@ -153,15 +153,15 @@ pub fn offset_by<T: Text, L: Ledger>(
     n: i64,
     steps: &mut Steps<L>,
 ) -> Result<Index, OutOfBounds>
-    ensures there { IfOk result (IsMoved (Units Utf8) (T.storage t.old) (T.whole t.old) (T.first t.old) (T.end t.old) i n) }
-    ensures refused { IfErr result (IsMoveOut (Units Utf8) (T.storage t.old) (T.whole t.old) (T.first t.old) (T.end t.old) i n) }
+    ensures there { IfOk result (IsMoved (elements_of (Units Utf8) (T.part t.old)) i n) }
+    ensures refused { IfErr result (IsMoveOut (elements_of (Units Utf8) (T.part t.old)) i n) }
     ensures kept { t.new ≡ t.old }
-    ensures cost { steps.new ≤ steps.old + 2 * length (T.whole t.old) + 4 * (T.end t.old - T.first t.old) + 6 }
-    ensures pass { reads_other (T.storage t.old) i ≡ false → steps.new ≤ steps.old + 4 * (T.end t.old - T.first t.old) + 6 }
-    ensures near { reads_other (T.storage t.old) i ≡ false → steps.new ≤ steps.old + 4 * unsigned_abs n + 12 }
+    ensures cost { steps.new ≤ steps.old + 2 * length (T.part t.old).whole + 4 * scalars_in (T.part t.old) + 6 }
+    ensures pass { reads_other (T.part t.old).storage i ≡ false → steps.new ≤ steps.old + 4 * scalars_in (T.part t.old) + 6 }
+    ensures near { reads_other (T.part t.old).storage i ≡ false → steps.new ≤ steps.old + 4 * unsigned_abs n + 12 }
     ensures unread { T.marked_ascii t.old ≡ true → steps.new ≡ steps.old }
 {
-    calls::offset_by(t, View::Units(Encoding::Utf8), i, n, steps)
+    calls::offset_by(t, ElementKind::Units(Encoding::Utf8), i, n, steps)
 }
 
 /// How many code units lie from the one that an index is rounded down to, to another: below 0 where that is before it.
@@ -174,13 +174,13 @@ pub fn distance<T: Text, L: Ledger>(
     to: Index,
     steps: &mut Steps<L>,
 ) -> Result<i64, OutOfBounds>
-    ensures bytes { IfOk result (IsDistance (Units Utf8) (T.storage t.old) (T.whole t.old) (T.first t.old) (T.end t.old) from to) }
-    ensures refused { IfErr result (IsEitherOut (Units Utf8) (T.storage t.old) (T.whole t.old) (T.first t.old) (T.end t.old) from to) }
+    ensures bytes { IfOk result (IsDistance (elements_of (Units Utf8) (T.part t.old)) from to) }
+    ensures refused { IfErr result (IsEitherOut (T.part t.old) from to) }
     ensures kept { t.new ≡ t.old }
-    ensures cost { steps.new ≤ steps.old + 4 * length (T.whole t.old) + 2 * (T.end t.old - T.first t.old) + 8 }
-    ensures near { reads_other (T.storage t.old) from ≡ false → reads_other (T.storage t.old) to ≡ false
-        → steps.new ≤ steps.old + 2 * (T.end t.old - T.first t.old) + 8 }
+    ensures cost { steps.new ≤ steps.old + 4 * length (T.part t.old).whole + 2 * scalars_in (T.part t.old) + 8 }
+    ensures near { reads_other (T.part t.old).storage from ≡ false → reads_other (T.part t.old).storage to ≡ false
+        → steps.new ≤ steps.old + 2 * scalars_in (T.part t.old) + 8 }
     ensures unread { T.marked_ascii t.old ≡ true → steps.new ≡ steps.old }
 {
-    calls::distance(t, View::Units(Encoding::Utf8), from, to, steps)
+    calls::distance(t, ElementKind::Units(Encoding::Utf8), from, to, steps)
 }

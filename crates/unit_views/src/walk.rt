@@ -6,7 +6,7 @@ ghost use Rattle.unit_views.specs.Elements.{is_own, view_width};
 ghost use Rattle.unit_views.specs.Spots.{Walked};
 
 use crate::steps::pass_elements;
-use crate::view::View;
+use crate::kind::ElementKind;
 use std::sync::ledger::Ledger;
 use word_units::{Steps, Text};
 
@@ -16,21 +16,21 @@ use word_units::{Steps, Text};
 /// code units. Where the text is marked ASCII no word is read; else at most two a scalar, in one pass.
 pub fn walk_on<T: Text, L: Ledger>(
     t: &mut T,
-    view: View,
+    view: ElementKind,
     from: u64,
     to: u64,
     room: u64,
     steps: &mut Steps<L>,
 ) -> (u64, u64)
-    requires across { is_own view (T.storage t.old) ≡ false }
+    requires across { is_own view (T.part t.old).storage ≡ false }
     requires order { from ≤ to }
-    requires inside { to ≤ size_in (T.storage t.old) (T.whole t.old) }
-    requires begun { start (width_in (T.storage t.old)) (T.whole t.old) (down (width_in (T.storage t.old)) (T.whole t.old) from) ≡ from }
-    requires ends { start (width_in (T.storage t.old)) (T.whole t.old) (down (width_in (T.storage t.old)) (T.whole t.old) to) ≡ to }
-    ensures walked { Walked (width_in (T.storage t.old)) (view_width view) (T.whole t.old) from to room result.0 result.1 }
+    requires inside { to ≤ storage_size (T.part t.old) }
+    requires begun { IsBoundaryIn (T.part t.old) from }
+    requires ends { IsBoundaryIn (T.part t.old) to }
+    ensures walked { Walked (width_in (T.part t.old).storage) (view_width view) (T.part t.old).whole from to room result.0 result.1 }
     ensures kept { t.new ≡ t.old }
-    ensures pass { steps.new + 2 * down (width_in (T.storage t.old)) (T.whole t.old) from
-        ≤ steps.old + 2 * down (width_in (T.storage t.old)) (T.whole t.old) to }
+    ensures pass { steps.new + 2 * scalars_before (T.part t.old) from
+        ≤ steps.old + 2 * scalars_before (T.part t.old) to }
     ensures near { steps.new ≤ steps.old + 2 * room }
     ensures unread { T.marked_ascii t.old ≡ true → steps.new ≡ steps.old }
 {
@@ -60,22 +60,22 @@ pub fn walk_on<T: Text, L: Ledger>(
 /// Where the text is marked ASCII no word is read; else at most two a scalar, in one pass.
 pub(crate) fn elements_between<T: Text, L: Ledger>(
     t: &mut T,
-    view: View,
+    view: ElementKind,
     from: u64,
     to: u64,
     steps: &mut Steps<L>,
 ) -> u64
-    requires across { is_own view (T.storage t.old) ≡ false }
+    requires across { is_own view (T.part t.old).storage ≡ false }
     requires order { from ≤ to }
-    requires inside { to ≤ size_in (T.storage t.old) (T.whole t.old) }
-    requires begun { start (width_in (T.storage t.old)) (T.whole t.old) (down (width_in (T.storage t.old)) (T.whole t.old) from) ≡ from }
-    requires ends { start (width_in (T.storage t.old)) (T.whole t.old) (down (width_in (T.storage t.old)) (T.whole t.old) to) ≡ to }
-    ensures value { start (view_width view) (T.whole t.old) (down (width_in (T.storage t.old)) (T.whole t.old) from) + result
-        ≡ start (view_width view) (T.whole t.old) (down (width_in (T.storage t.old)) (T.whole t.old) to) }
+    requires inside { to ≤ storage_size (T.part t.old) }
+    requires begun { IsBoundaryIn (T.part t.old) from }
+    requires ends { IsBoundaryIn (T.part t.old) to }
+    ensures value { start (view_width view) (T.part t.old).whole (scalars_before (T.part t.old) from) + result
+        ≡ start (view_width view) (T.part t.old).whole (scalars_before (T.part t.old) to) }
     ensures small { result < 2 ^ 51 }
     ensures kept { t.new ≡ t.old }
-    ensures pass { steps.new + 2 * down (width_in (T.storage t.old)) (T.whole t.old) from
-        ≤ steps.old + 2 * down (width_in (T.storage t.old)) (T.whole t.old) to }
+    ensures pass { steps.new + 2 * scalars_before (T.part t.old) from
+        ≤ steps.old + 2 * scalars_before (T.part t.old) to }
     ensures unread { T.marked_ascii t.old ≡ true → steps.new ≡ steps.old }
 {
     let _count = t.count();

@@ -1,12 +1,12 @@
 -- One scalar on.
-use Rattle.std.proofs.Common.{◌≡◌, sym, ap, ◌∙◌, ℕ, suc, ◌+◌, ◌<◌, List, get_or, arith}
+use Rattle.std.proofs.Common.{◌≡◌, sym, ap, subst, ◌∙◌, ℕ, suc, ◌+◌, ◌<◌, List, get_or, arith}
 use Rattle.text_spec.specs.declared.encoding.Encoding.{Encoding}
 use Rattle.text_spec.specs.Offsets.{start, down}
 use Rattle.text_spec.specs.Views.{width_in, other_width, size_in}
 use Rattle.text_spec.proofs.Walk.{start-suc, start-le, down-next, down-start}
 use Rattle.text_spec.proofs.Widths.{width_some, width_most, other_some, other_most}
 use Rattle.word_units.specs.Walking.{Passes}
-use Rattle.word_units.specs.Parts.{part_of}
+use Rattle.word_units.specs.Parts.{part_of, Part, all_of}
 
 pub passes : (e : Encoding) (b : List ℕ) (first end at next units : ℕ) → at < size_in e b → start (width_in e) b (down (width_in e) b at) ≡ at
     → next ≡ at + width_in e (get_or b (down (width_in e) b at) 0) → units ≡ other_width e (get_or b (down (width_in e) b at) 0) → Passes (part_of e b first end) at next units
@@ -28,4 +28,20 @@ passes e b first end at next units h is ends takes =
       within = omega (arith, here, start-le w b (suc k));
       some = omega (arith, takes, other_some e c);
       few = omega (arith, takes, other_most e c);
+    }
+
+-- the same in all of the storage, once its encoding is known
+pub passes_all : (t : Part) (e : Encoding) (at next units : ℕ) → t.storage ≡ e → Passes t at next units → Passes (all_of e t.whole) at next units
+passes_all t e at next units same p =
+    let q = subst (λ x. Passes (part_of x t.whole t.first t.end) at next units) same p in
+    record {
+      inside = q.inside;
+      number = q.number;
+      boundary = q.boundary;
+      other = q.other;
+      ahead = q.ahead;
+      near = q.near;
+      within = q.within;
+      some = q.some;
+      few = q.few;
     }

@@ -6,7 +6,7 @@ use Rattle.crumbs.proofs.asking.last_before.Goals as goal
 
 pub halves-init : goal.halves-init
 halves-init g c =
-    let b = g.T.Text.whole c.args.t.now in
+    let b = (g.T.Text.part c.args.t.now).whole in
     let none : 0 * g.T.Text.STRIDE ≡ 0 = omega arith in
     record {
       same = refl;
@@ -38,8 +38,8 @@ halves-preserved-then-le g c =
           (f.0, f.1, omega (arith, f.2));
     }
   where
-    there : (g : _) (c : goal.Then-le g) → c.crumb-there.result ≡ index16 (g.T.Text.whole c.args.t.now) ((c.halves.low + (c.halves.high - c.halves.low) / 2) * g.T.Text.STRIDE)
-    there g c = c.crumb-there.ensures.value ∙ ap (λ t. index16 (g.T.Text.whole t) ((c.halves.low + (c.halves.high - c.halves.low) / 2) * g.T.Text.STRIDE)) c.halves.invariant.same
+    there : (g : _) (c : goal.Then-le g) → c.crumb-there.result ≡ index16 (g.T.Text.part c.args.t.now).whole ((c.halves.low + (c.halves.high - c.halves.low) / 2) * g.T.Text.STRIDE)
+    there g c = c.crumb-there.ensures.value ∙ ap (λ t. index16 (g.T.Text.part t).whole ((c.halves.low + (c.halves.high - c.halves.low) / 2) * g.T.Text.STRIDE)) c.halves.invariant.same
 
 pub halves-preserved : goal.halves-preserved
 halves-preserved g c =
@@ -61,8 +61,8 @@ halves-preserved g c =
           (f.0, f.1, omega (arith, f.2));
     }
   where
-    there : (g : _) (c : goal.Else-le g) → c.crumb-there.result ≡ index16 (g.T.Text.whole c.args.t.now) ((c.halves.low + (c.halves.high - c.halves.low) / 2) * g.T.Text.STRIDE)
-    there g c = c.crumb-there.ensures.value ∙ ap (λ t. index16 (g.T.Text.whole t) ((c.halves.low + (c.halves.high - c.halves.low) / 2) * g.T.Text.STRIDE)) c.halves.invariant.same
+    there : (g : _) (c : goal.Else-le g) → c.crumb-there.result ≡ index16 (g.T.Text.part c.args.t.now).whole ((c.halves.low + (c.halves.high - c.halves.low) / 2) * g.T.Text.STRIDE)
+    there g c = c.crumb-there.ensures.value ∙ ap (λ t. index16 (g.T.Text.part t).whole ((c.halves.low + (c.halves.high - c.halves.low) / 2) * g.T.Text.STRIDE)) c.halves.invariant.same
 
 -- one breadcrumb is left, so that nothing is left to be halved
 pub returns-clause-counted : goal.returns-clause-counted

@@ -6,7 +6,7 @@ use Rattle.crumbs.proofs.asking.last_before.Given as goal
 -- the breadcrumb at `low` isn't after the index, that at `high` is, and what lies between is halved for each word read
 abbrev pub invariant-halves : goal.invariant-halves
 invariant-halves g l =
-    let b = g.T.Text.whole l.fn.t in
+    let b = (g.T.Text.part l.fn.t).whole in
     let n = g.T.Text.STRIDE in
     record {
       same : l.t ≡ l.fn.t;

@@ -3,14 +3,14 @@ use Rattle.crumbs.proofs.Seeing.{seen_none, seen_end, stepped, same_word}
 use Rattle.crumbs.proofs.counting.count_units.Goals as goal
 
 pub bytes-init : goal.bytes-init
-bytes-init g c = record { same = refl; seen = seen_none (g.T.Text.whole c.args.t.now); few = omega arith; held = λ h. absurd (h refl); cost = omega arith }
+bytes-init g c = record { same = refl; seen = seen_none (g.T.Text.part c.args.t.now).whole; few = omega arith; held = λ h. absurd (h refl); cost = omega arith }
 
 pub bytes-preserved : goal.bytes-preserved
 bytes-preserved g c =
     let ws = g.T.Text.words c.args.t.now in
     let l = c.bytes in
     let word : c.word_at-word.result ≡ get_or ws (l.p / 8) 0 = c.word_at-word.ensures.value ∙ ap (λ v. get_or (g.T.Text.words v) (l.p / 8) 0) l.invariant.same in
-    let step = stepped (g.T.Text.storage c.args.t.now) ws c.count-count.result (g.T.Text.whole c.args.t.now) l.p l.reached c.word_at-word.result c.units_at-reached.result
+    let step = stepped (g.T.Text.part c.args.t.now).storage ws c.count-count.result (g.T.Text.part c.args.t.now).whole l.p l.reached c.word_at-word.result c.units_at-reached.result
     c.requires.storage c.count-count.ensures.value c.count-count.ensures.denotes l.invariant.seen (omega arith) word c.units_at-reached.ensures.value in
     record {
       same = c.word_at-word.ensures.kept ∙ l.invariant.same;
@@ -22,5 +22,5 @@ bytes-preserved g c =
 
 pub returns-clause-units : goal.returns-clause-units
 returns-clause-units g c =
-    seen_end (g.T.Text.storage c.args.t.now) c.count-count.result (g.T.Text.whole c.args.t.now) c.bytes.p c.bytes.reached
+    seen_end (g.T.Text.part c.args.t.now).storage c.count-count.result (g.T.Text.part c.args.t.now).whole c.bytes.p c.bytes.reached
     c.requires.storage c.count-count.ensures.value c.bytes.invariant.seen (omega arith)

@@ -7,7 +7,7 @@ abbrev pub invariant-bytes : goal.invariant-bytes
 invariant-bytes g l =
     record {
       same : l.t ≡ l.fn.t;
-      seen : Seen (g.T.Text.whole l.fn.t) l.p l.reached;
+      seen : Seen (g.T.Text.part l.fn.t).whole l.p l.reached;
       few : l.reached ≤ 2 * l.p;
       held : l.p % 8 ≢ 0 → l.word ≡ get_or (g.T.Text.words l.fn.t) (l.p / 8) 0;
       cost : l.steps ≡ l.fn.steps + (l.p + 7) / 8;

@@ -5,7 +5,7 @@ use Rattle.crumbs.proofs.crumb.length16.Goals as goal
 
 pub returns-clause-small : goal.returns-clause-small
 returns-clause-small g c =
-    let b = g.T.Text.whole c.args.t.now in
+    let b = (g.T.Text.part c.args.t.now).whole in
     let some : 0 < length (crumbs b g.T.Text.STRIDE) = omega arith in
     let is : c.crumb_word.result ≡ size16 b = c.crumb_word.ensures.value c.requires.known some in
-    omega (arith, is, size16-le (g.T.Text.storage c.args.t.now) b)
+    omega (arith, is, size16-le (g.T.Text.part c.args.t.now).storage b)

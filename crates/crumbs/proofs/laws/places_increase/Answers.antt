@@ -1,3 +1,4 @@
+use Rattle.index_words.specs.Crumbs.{index16}
 use Rattle.crumbs.proofs.Crumbing.{index16-increases}
 use Rattle.crumbs.proofs.laws.places_increase.Goals as goal
 

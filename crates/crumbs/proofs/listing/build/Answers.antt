@@ -12,14 +12,14 @@ use Rattle.crumbs.proofs.listing.build.Goals as goal
 
 pub bytes-init : goal.bytes-init
 bytes-init g c =
-    let b = g.T.Text.whole c.args.t.now in
+    let b = (g.T.Text.part c.args.t.now).whole in
     let d = c.args.draft.now in
     record {
       same = c.count_units.ensures.kept;
       seen = seen_none b;
       held = λ h. absurd (h refl);
       written = c.write.ensures ∙ ap (λ (w : ℕ). record d { written = d.written ++ (w ∷ []) }) c.count_units.ensures.units;
-      small = omega (arith, size16-le (g.T.Text.storage c.args.t.now) b, c.count-count.ensures.value, c.count-count.ensures.small);
+      small = omega (arith, size16-le (g.T.Text.part c.args.t.now).storage b, c.count-count.ensures.value, c.count-count.ensures.small);
       due = omega arith;
       few = omega arith;
       last = λ h. absurd (omega arith);
@@ -30,50 +30,50 @@ bytes-init g c =
 record Here (g : Over) (old now : g.row.T.Denot) (p reached word stop : ℕ) : Type 0 where
   same : now ≡ old
   word_is : word ≡ get_or (g.T.Text.words old) (p / 8) 0
-  step : Stepped (g.T.Text.whole old) p reached stop
+  step : Stepped (g.T.Text.part old).whole p reached stop
 
-here : (g : Over) (old held now : g.row.T.Denot) (p reached count word wide : ℕ) → g.T.Text.storage old ≡ Utf8 → count ≡ size_in (g.T.Text.storage old) (g.T.Text.whole old)
-    → denoted_text (g.T.Text.storage old) (g.T.Text.words old) count ≡ Some (g.T.Text.whole old) → Seen (g.T.Text.whole old) p reached → p < count
+here : (g : Over) (old held now : g.row.T.Denot) (p reached count word wide : ℕ) → (g.T.Text.part old).storage ≡ Utf8 → count ≡ size_in (g.T.Text.part old).storage (g.T.Text.part old).whole
+    → denoted_text (g.T.Text.part old).storage (g.T.Text.words old) count ≡ Some (g.T.Text.part old).whole → Seen (g.T.Text.part old).whole p reached → p < count
     → held ≡ old → now ≡ held → word ≡ get_or (g.T.Text.words held) (p / 8) 0 → wide ≡ units_begun (word / 2 ^ (8 * (p % 8)) % 256) → Here g old now p reached word (reached + wide)
 here g old held now p reached count word wide utf8 long denotes seen inside before kept is takes =
     let word_is : word ≡ get_or (g.T.Text.words old) (p / 8) 0 = is ∙ ap (λ v. get_or (g.T.Text.words v) (p / 8) 0) before in
     record {
       same = kept ∙ before;
       word_is = word_is;
-      step = stepped (g.T.Text.storage old) (g.T.Text.words old) count (g.T.Text.whole old) p reached word wide utf8 long denotes seen inside word_is takes;
+      step = stepped (g.T.Text.part old).storage (g.T.Text.words old) count (g.T.Text.part old).whole p reached word wide utf8 long denotes seen inside word_is takes;
     }
 
 pub write_due-number-requires-clause-units : goal.write_due-number-requires-clause-units
 write_due-number-requires-clause-units g c =
     let h = here g _ _ _ c.bytes.p c.bytes.reached _ _ _ c.requires.storage c.count-count.ensures.value c.count-count.ensures.denotes c.bytes.invariant.seen (omega arith)
     c.bytes.invariant.same c.word_at-word.ensures.kept c.word_at-word.ensures.value c.units_at.ensures.value in
-    λ o low high. ap (λ v. index16 (g.T.Text.whole v) o) h.same ∙ h.step.units o low high
+    λ o low high. ap (λ v. index16 (g.T.Text.part v).whole o) h.same ∙ h.step.units o low high
 
 pub write_due-number-requires-clause-inside : goal.write_due-number-requires-clause-inside
 write_due-number-requires-clause-inside g c =
     let h = here g _ _ _ c.bytes.p c.bytes.reached _ _ _ c.requires.storage c.count-count.ensures.value c.count-count.ensures.denotes c.bytes.invariant.seen (omega arith)
     c.bytes.invariant.same c.word_at-word.ensures.kept c.word_at-word.ensures.value c.units_at.ensures.value in
-    let in_text : size16 (g.T.Text.whole c.word_at-word.new.t) ≡ size16 (g.T.Text.whole c.args.t.now) = ap (λ v. size16 (g.T.Text.whole v)) h.same in
+    let in_text : size16 (g.T.Text.part c.word_at-word.new.t).whole ≡ size16 (g.T.Text.part c.args.t.now).whole = ap (λ v. size16 (g.T.Text.part v).whole) h.same in
     omega (arith, in_text, h.step.more.units_in)
 
 pub write_due-number-requires-clause-room : goal.write_due-number-requires-clause-room
 write_due-number-requires-clause-room g c =
     let same = c.word_at-word.ensures.kept ∙ c.bytes.invariant.same in
     let n = g.T.Text.STRIDE in
-    let in_text : size16 (g.T.Text.whole c.word_at-word.new.t) / n ≡ size16 (g.T.Text.whole c.args.t.now) / n = ap (λ v. size16 (g.T.Text.whole v) / n) same in
-    omega (arith, in_text, room_left (g.T.Text.whole c.args.t.now) n c.bytes.number c.args.draft.now c.bytes.draft c.bytes.invariant.written c.requires.room)
+    let in_text : size16 (g.T.Text.part c.word_at-word.new.t).whole / n ≡ size16 (g.T.Text.part c.args.t.now).whole / n = ap (λ v. size16 (g.T.Text.part v).whole / n) same in
+    omega (arith, in_text, room_left (g.T.Text.part c.args.t.now).whole n c.bytes.number c.args.draft.now c.bytes.draft c.bytes.invariant.written c.requires.room)
 
 pub bytes-preserved : goal.bytes-preserved
 bytes-preserved g c =
     let h = here g _ _ _ c.bytes.p c.bytes.reached _ _ _ c.requires.storage c.count-count.ensures.value c.count-count.ensures.denotes c.bytes.invariant.seen (omega arith)
     c.bytes.invariant.same c.word_at-word.ensures.kept c.word_at-word.ensures.value c.units_at.ensures.value in
-    let b = g.T.Text.whole c.args.t.now in
+    let b = (g.T.Text.part c.args.t.now).whole in
     let n = g.T.Text.STRIDE in
     let l = c.bytes in
     let e = c.write_due-number.ensures in
     let r = c.write_due-number.result in
     let more : (front : List ℕ) → l.draft.written ≡ front ++ crumbs_below b n l.number → c.write_due-number.new.draft ≡ record l.draft { written = front ++ crumbs_below b n r } =
-    subst (λ v. (front : List ℕ) → l.draft.written ≡ front ++ crumbs_below (g.T.Text.whole v) n l.number → c.write_due-number.new.draft ≡ record l.draft { written = front ++ crumbs_below (g.T.Text.whole v) n r })
+    subst (λ v. (front : List ℕ) → l.draft.written ≡ front ++ crumbs_below (g.T.Text.part v).whole n l.number → c.write_due-number.new.draft ≡ record l.draft { written = front ++ crumbs_below (g.T.Text.part v).whole n r })
     h.same e.written in
     record {
       same = h.same;
@@ -90,32 +90,32 @@ bytes-preserved g c =
 pub write_due-requires-clause-units : goal.write_due-requires-clause-units
 write_due-requires-clause-units g c =
     let l = c.bytes in
-    λ o low high. ap (λ v. index16 (g.T.Text.whole v) o) l.invariant.same
-    ∙ end_units (g.T.Text.storage c.args.t.now) c.count-count.result (g.T.Text.whole c.args.t.now) l.p l.reached c.requires.storage c.count-count.ensures.value l.invariant.seen (omega arith) o low high
+    λ o low high. ap (λ v. index16 (g.T.Text.part v).whole o) l.invariant.same
+    ∙ end_units (g.T.Text.part c.args.t.now).storage c.count-count.result (g.T.Text.part c.args.t.now).whole l.p l.reached c.requires.storage c.count-count.ensures.value l.invariant.seen (omega arith) o low high
 
 pub write_due-requires-clause-room : goal.write_due-requires-clause-room
 write_due-requires-clause-room g c =
     let n = g.T.Text.STRIDE in
-    let in_text : size16 (g.T.Text.whole c.bytes.t) / n ≡ size16 (g.T.Text.whole c.args.t.now) / n = ap (λ v. size16 (g.T.Text.whole v) / n) c.bytes.invariant.same in
-    omega (arith, in_text, room_left (g.T.Text.whole c.args.t.now) n c.bytes.number c.args.draft.now c.bytes.draft c.bytes.invariant.written c.requires.room)
+    let in_text : size16 (g.T.Text.part c.bytes.t).whole / n ≡ size16 (g.T.Text.part c.args.t.now).whole / n = ap (λ v. size16 (g.T.Text.part v).whole / n) c.bytes.invariant.same in
+    omega (arith, in_text, room_left (g.T.Text.part c.args.t.now).whole n c.bytes.number c.args.draft.now c.bytes.draft c.bytes.invariant.written c.requires.room)
 
 pub returns-clause-written : goal.returns-clause-written
 returns-clause-written g c =
-    let b = g.T.Text.whole c.args.t.now in
+    let b = (g.T.Text.part c.args.t.now).whole in
     let n = g.T.Text.STRIDE in
     let l = c.bytes in
     let d = c.args.draft.now in
     let e = c.write_due.ensures in
     let r = c.write_due.result in
-    let all = seen_end (g.T.Text.storage c.args.t.now) c.count-count.result b l.p l.reached c.requires.storage c.count-count.ensures.value l.invariant.seen (omega arith) in
+    let all = seen_end (g.T.Text.part c.args.t.now).storage c.count-count.result b l.p l.reached c.requires.storage c.count-count.ensures.value l.invariant.seen (omega arith) in
     let more : (front : List ℕ) → l.draft.written ≡ front ++ crumbs_below b n l.number → c.write_due.new.draft ≡ record l.draft { written = front ++ crumbs_below b n r } =
-    subst (λ v. (front : List ℕ) → l.draft.written ≡ front ++ crumbs_below (g.T.Text.whole v) n l.number → c.write_due.new.draft ≡ record l.draft { written = front ++ crumbs_below (g.T.Text.whole v) n r })
+    subst (λ v. (front : List ℕ) → l.draft.written ≡ front ++ crumbs_below (g.T.Text.part v).whole n l.number → c.write_due.new.draft ≡ record l.draft { written = front ++ crumbs_below (g.T.Text.part v).whole n r })
     l.invariant.same e.written in
     grown b n l.number d l.draft l.invariant.written r c.write_due.new.draft more
     ∙ ap (λ (ws : List ℕ). record d { written = d.written ++ ws }) (below_all b n r c.requires.some.0 (omega (arith, all, e.due)) (λ h. omega (arith, all, e.last h)))
 
 pub returns-clause-few : goal.returns-clause-few
 returns-clause-few g c =
-    let b = g.T.Text.whole c.args.t.now in
-    let long = long8 (g.T.Text.storage c.args.t.now) c.count-count.result b c.requires.storage c.count-count.ensures.value in
+    let b = (g.T.Text.part c.args.t.now).whole in
+    let long = long8 (g.T.Text.part c.args.t.now).storage c.count-count.result b c.requires.storage c.count-count.ensures.value in
     omega (arith, words_most b, long, c.bytes.invariant.cost)

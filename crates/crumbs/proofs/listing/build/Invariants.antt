@@ -9,7 +9,7 @@ use Rattle.crumbs.proofs.listing.build.Given as goal
 -- the breadcrumbs of the units before byte p are written, and each word before it is read a second time
 abbrev pub invariant-bytes : goal.invariant-bytes
 invariant-bytes g l =
-    let b = g.T.Text.whole l.fn.t in
+    let b = (g.T.Text.part l.fn.t).whole in
     let n = g.T.Text.STRIDE in
     record {
       same : l.t ≡ l.fn.t;

@@ -7,7 +7,7 @@ use Rattle.crumbs.proofs.listing.write_due.Goals as goal
 
 pub due-preserved : goal.due-preserved
 due-preserved g c =
-    let b = g.T.Text.whole c.args.t.now in
+    let b = (g.T.Text.part c.args.t.now).whole in
     let n = g.T.Text.STRIDE in
     let l = c.due in
     let d = c.args.draft.now in

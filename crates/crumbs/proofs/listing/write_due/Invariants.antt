@@ -5,7 +5,7 @@ use Rattle.crumbs.proofs.listing.write_due.Given as goal
 -- the breadcrumbs below `next` are written, of which at most two are new
 abbrev pub invariant-due : goal.invariant-due
 invariant-due g l =
-    let b = g.T.Text.whole l.fn.t in
+    let b = (g.T.Text.part l.fn.t).whole in
     let n = g.T.Text.STRIDE in
     record {
       written : (front : List ℕ) → l.fn.draft.written ≡ front ++ crumbs_below b n l.number → l.draft ≡ record l.fn.draft { written = front ++ crumbs_below b n l.next };

@@ -13,12 +13,12 @@ use Rattle.crumbs.proofs.scanning.scalar_over.Goals as goal
 
 -- what a word tells, of the text as it was
 scanned : (g : Over) (old now : g.row.T.Denot) (limit : _) (at begins units takes : ℕ) → now ≡ old
-    → Scanned (g.T.Text.whole now) limit at begins units takes → Scanned (g.T.Text.whole old) limit at begins units takes
-scanned g old now limit at begins units takes same s = subst (λ t. Scanned (g.T.Text.whole t) limit at begins units takes) same s
+    → Scanned (g.T.Text.part now).whole limit at begins units takes → Scanned (g.T.Text.part old).whole limit at begins units takes
+scanned g old now limit at begins units takes same s = subst (λ t. Scanned (g.T.Text.part t).whole limit at begins units takes) same s
 
 pub words-init : goal.words-init
 words-init g c =
-    let b = g.T.Text.whole c.args.t.now in
+    let b = (g.T.Text.part c.args.t.now).whole in
     record {
       same = refl;
       walked = walk_begins b c.args.limit c.args.from c.args.units c.requires.begun c.requires.within c.requires.order;
@@ -27,11 +27,11 @@ words-init g c =
 
 pub words-preserved : goal.words-preserved
 words-preserved g c =
-    let b = g.T.Text.whole c.args.t.now in
+    let b = (g.T.Text.part c.args.t.now).whole in
     let first = down len_utf8 b c.args.from in
     let l = c.words in
     let w = l.invariant.walked in
-    let long = long8 (g.T.Text.storage c.args.t.now) c.count-count.result b c.requires.storage c.count-count.ensures.value in
+    let long = long8 (g.T.Text.part c.args.t.now).storage c.count-count.result b c.requires.storage c.count-count.ensures.value in
     let inside : l.at < size_in Utf8 b = omega (arith, long) in
     let s = scanned g c.args.t.now _ c.args.limit l.at _ _ _ (c.word-word.ensures.kept ∙ l.invariant.same) c.scan_word-scalar.ensures in
     let next = walk_on b c.args.limit first l.at l.reached _ _ _ w inside s (omega (arith, c.if-scalar-gt0.false)) in
@@ -50,12 +50,12 @@ returns-then-scalar-gt0-clause-stands g c =
 
 pub returns-then-scalar-gt0-clause-cost : goal.returns-then-scalar-gt0-clause-cost
 returns-then-scalar-gt0-clause-cost g c =
-    let b = g.T.Text.whole c.args.t.now in
+    let b = (g.T.Text.part c.args.t.now).whole in
     let first = down len_utf8 b c.args.from in
     let l = c.words in
     let w = l.invariant.walked in
     let last = number_at b c.args.limit in
-    let long = long8 (g.T.Text.storage c.args.t.now) c.count-count.result b c.requires.storage c.count-count.ensures.value in
+    let long = long8 (g.T.Text.part c.args.t.now).storage c.count-count.result b c.requires.storage c.count-count.ensures.value in
     let inside : l.at < size_in Utf8 b = omega (arith, long) in
     let s = scanned g c.args.t.now _ c.args.limit l.at _ _ _ (c.word-word.ensures.kept ∙ l.invariant.same) c.scan_word-scalar.ensures in
     let found = s.found (omega (arith, c.if-scalar-gt0.true)) in
@@ -66,16 +66,16 @@ returns-then-scalar-gt0-clause-cost g c =
 
 pub returns-clause-stands : goal.returns-clause-stands
 returns-clause-stands g c =
-    let b = g.T.Text.whole c.args.t.now in
+    let b = (g.T.Text.part c.args.t.now).whole in
     let l = c.words in
-    let long = long8 (g.T.Text.storage c.args.t.now) c.count-count.result b c.requires.storage c.count-count.ensures.value in
+    let long = long8 (g.T.Text.part c.args.t.now).storage c.count-count.result b c.requires.storage c.count-count.ensures.value in
     (walk_ends b c.args.limit (down len_utf8 b c.args.from) l.at l.reached l.invariant.walked (omega (arith, long))).0
 
 pub returns-clause-cost : goal.returns-clause-cost
 returns-clause-cost g c =
-    let b = g.T.Text.whole c.args.t.now in
+    let b = (g.T.Text.part c.args.t.now).whole in
     let first = down len_utf8 b c.args.from in
     let l = c.words in
-    let long = long8 (g.T.Text.storage c.args.t.now) c.count-count.result b c.requires.storage c.count-count.ensures.value in
+    let long = long8 (g.T.Text.part c.args.t.now).storage c.count-count.result b c.requires.storage c.count-count.ensures.value in
     let ends = walk_ends b c.args.limit first l.at l.reached l.invariant.walked (omega (arith, long)) in
     l.invariant.cost ∙ omega (arith, ap (words_begun b first) ends.1, through-end b first (number_at b c.args.limit) (omega (arith, ends.2)))

@@ -8,7 +8,7 @@ use Rattle.crumbs.proofs.scanning.scalar_over.Given as goal
 -- the scalars so far end before the limit or at it, and each word that one of them begins in is read once
 abbrev pub invariant-words : goal.invariant-words
 invariant-words g l =
-    let b = g.T.Text.whole l.fn.t in
+    let b = (g.T.Text.part l.fn.t).whole in
     let first = down len_utf8 b l.from in
     record {
       same : l.t ≡ l.fn.t;

@@ -3,7 +3,7 @@ use Rattle.crumbs.proofs.Scans.{Scanning}
 use Rattle.crumbs.proofs.scanning.scan_word.Given as goal
 
 abbrev pub invariant-scalars : goal.invariant-scalars
-invariant-scalars g l = Scanning (g.T.Text.whole l.t) l.limit l.at l.begins l.reached
+invariant-scalars g l = Scanning (g.T.Text.part l.t).whole l.limit l.at l.begins l.reached
 
 abbrev pub decreases-scalars : goal.decreases-scalars
 decreases-scalars g l = l.stop - l.begins

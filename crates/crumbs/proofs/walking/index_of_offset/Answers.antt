@@ -6,6 +6,7 @@ use Rattle.index_words.specs.Crumbs.{size16, index16}
 use Rattle.text_spec.specs.Offsets.{len_utf16, down}
 use Rattle.text_spec.specs.Views.{size_in}
 use Rattle.index_words.specs.Fields.{position_of, transcoded_of}
+use Rattle.word_units.specs.Parts.{all_of}
 use Rattle.rounding.specs.Resolving.{Reaches}
 use Rattle.crumbs.specs.Searching.{words_through, words_to_unit}
 use Rattle.crumbs.specs.Scanning.{Stands}
@@ -16,45 +17,45 @@ use Rattle.crumbs.proofs.walking.index_of_offset.Given.{Over}
 use Rattle.crumbs.proofs.walking.index_of_offset.Goals as goal
 
 -- the breadcrumb before the offset, of the text as it was
-starts : (g : Over) (old now : g.row.T.Denot) (n stride o word : ℕ) → now ≡ old → stride ≡ n → 1 ≤ n → o ≤ size16 (g.T.Text.whole old)
-    → word ≡ index16 (g.T.Text.whole now) (o / n * n) → FromCrumb (g.T.Text.whole old) n (o / stride * stride) (down len_utf16 (g.T.Text.whole old) o) word
+starts : (g : Over) (old now : g.row.T.Denot) (n stride o word : ℕ) → now ≡ old → stride ≡ n → 1 ≤ n → o ≤ size16 (g.T.Text.part old).whole
+    → word ≡ index16 (g.T.Text.part now).whole (o / n * n) → FromCrumb (g.T.Text.part old).whole n (o / stride * stride) (down len_utf16 (g.T.Text.part old).whole o) word
 starts g old now n stride o word same is some inside crumb =
-    subst (λ s. FromCrumb (g.T.Text.whole old) n (o / s * s) (down len_utf16 (g.T.Text.whole old) o) word) (sym is)
-    (to_unit (g.T.Text.whole old) n o word some inside (crumb ∙ ap (λ t. index16 (g.T.Text.whole t) (o / n * n)) same))
+    subst (λ s. FromCrumb (g.T.Text.part old).whole n (o / s * s) (down len_utf16 (g.T.Text.part old).whole o) word) (sym is)
+    (to_unit (g.T.Text.part old).whole n o word some inside (crumb ∙ ap (λ t. index16 (g.T.Text.part t).whole (o / n * n)) same))
 
 pub scalar_over-scalar-requires-clause-begun : goal.scalar_over-scalar-requires-clause-begun
 scalar_over-scalar-requires-clause-begun g c =
-    let b = g.T.Text.whole c.args.t.now in
+    let b = (g.T.Text.part c.args.t.now).whole in
     let m = c.args.offset / c.stride-stride.result * c.stride-stride.result in
     let word = c.for_offset-crumb.result in
     let f = starts g c.args.t.now _ g.T.Text.STRIDE c.stride-stride.result c.args.offset word c.length16-high.ensures.kept c.stride-stride.ensures c.requires.some
     (omega (arith, c.if-offset-high.false, c.length16-high.ensures.value)) c.for_offset-crumb.ensures.value in
     let past : c.from-past.result ≡ transcoded_of word = c.from-past.ensures ∙ c.transcoded.ensures.value in
-    subst (λ t. Reaches Utf8 (g.T.Text.whole t) c.position.result (m - c.from-past.result)) (sym (c.for_offset-crumb.ensures.kept ∙ c.length16-high.ensures.kept))
-    (subst (λ p. Reaches Utf8 b p (m - c.from-past.result)) (sym c.position.ensures.value)
-    (subst (λ x. Reaches Utf8 b (position_of word) (m - x)) (sym past) f.reaches))
+    subst (λ t. Reaches (all_of Utf8 (g.T.Text.part t).whole) c.position.result (m - c.from-past.result)) (sym (c.for_offset-crumb.ensures.kept ∙ c.length16-high.ensures.kept))
+    (subst (λ p. Reaches (all_of Utf8 b) p (m - c.from-past.result)) (sym c.position.ensures.value)
+    (subst (λ x. Reaches (all_of Utf8 b) (position_of word) (m - x)) (sym past) f.reaches))
 
 pub scalar_over-scalar-requires-clause-within : goal.scalar_over-scalar-requires-clause-within
 scalar_over-scalar-requires-clause-within g c =
     let f = starts g c.args.t.now _ g.T.Text.STRIDE c.stride-stride.result c.args.offset c.for_offset-crumb.result c.length16-high.ensures.kept c.stride-stride.ensures c.requires.some
     (omega (arith, c.if-offset-high.false, c.length16-high.ensures.value)) c.for_offset-crumb.ensures.value in
-    subst (λ t. c.position.result ≤ size_in Utf8 (g.T.Text.whole t)) (sym (c.for_offset-crumb.ensures.kept ∙ c.length16-high.ensures.kept))
+    subst (λ t. c.position.result ≤ size_in Utf8 (g.T.Text.part t).whole) (sym (c.for_offset-crumb.ensures.kept ∙ c.length16-high.ensures.kept))
     (omega (arith, f.within, c.position.ensures.value))
 
 pub scalar_over-scalar-requires-clause-order : goal.scalar_over-scalar-requires-clause-order
 scalar_over-scalar-requires-clause-order g c =
     let f = starts g c.args.t.now _ g.T.Text.STRIDE c.stride-stride.result c.args.offset c.for_offset-crumb.result c.length16-high.ensures.kept c.stride-stride.ensures c.requires.some
     (omega (arith, c.if-offset-high.false, c.length16-high.ensures.value)) c.for_offset-crumb.ensures.value in
-    subst (λ t. down len_utf8 (g.T.Text.whole t) c.position.result ≤ down len_utf16 (g.T.Text.whole t) c.args.offset) (sym (c.for_offset-crumb.ensures.kept ∙ c.length16-high.ensures.kept))
-    (subst (λ p. down len_utf8 (g.T.Text.whole c.args.t.now) p ≤ down len_utf16 (g.T.Text.whole c.args.t.now) c.args.offset) (sym c.position.ensures.value) f.order)
+    subst (λ t. down len_utf8 (g.T.Text.part t).whole c.position.result ≤ down len_utf16 (g.T.Text.part t).whole c.args.offset) (sym (c.for_offset-crumb.ensures.kept ∙ c.length16-high.ensures.kept))
+    (subst (λ p. down len_utf8 (g.T.Text.part c.args.t.now).whole p ≤ down len_utf16 (g.T.Text.part c.args.t.now).whole c.args.offset) (sym c.position.ensures.value) f.order)
 
 -- the scalar that covers the offset, of the text as it was
-ends : (g : Over) (old now : g.row.T.Denot) (o begins units takes : ℕ) → now ≡ old → o ≤ size16 (g.T.Text.whole old)
-    → Stands (g.T.Text.whole now) (down len_utf16 (g.T.Text.whole now) o) begins units takes
-    → (Stands (g.T.Text.whole old) (down len_utf16 (g.T.Text.whole old) o) begins units takes) × Over16 (g.T.Text.whole old) o begins units
+ends : (g : Over) (old now : g.row.T.Denot) (o begins units takes : ℕ) → now ≡ old → o ≤ size16 (g.T.Text.part old).whole
+    → Stands (g.T.Text.part now).whole (down len_utf16 (g.T.Text.part now).whole o) begins units takes
+    → (Stands (g.T.Text.part old).whole (down len_utf16 (g.T.Text.part old).whole o) begins units takes) × Over16 (g.T.Text.part old).whole o begins units
 ends g old now o begins units takes same inside stands =
-    let s = subst (λ t. Stands (g.T.Text.whole t) (down len_utf16 (g.T.Text.whole t) o) begins units takes) same stands in
-    (s, over16 (g.T.Text.whole old) o begins units takes inside s)
+    let s = subst (λ t. Stands (g.T.Text.part t).whole (down len_utf16 (g.T.Text.part t).whole o) begins units takes) same stands in
+    (s, over16 (g.T.Text.part old).whole o begins units takes inside s)
 
 pub overflow_sub-offset : goal.overflow_sub-offset
 overflow_sub-offset g c =
@@ -66,7 +67,7 @@ pub index_of_crumb-requires-clause-small : goal.index_of_crumb-requires-clause-s
 index_of_crumb-requires-clause-small g c =
     let over = ends g c.args.t.now _ c.args.offset _ _ _ (c.for_offset-crumb.ensures.kept ∙ c.length16-high.ensures.kept)
     (omega (arith, c.if-offset-high.false, c.length16-high.ensures.value)) c.scalar_over-scalar.ensures.stands in
-    let long = long8 (g.T.Text.storage c.args.t.now) c.count-count.result (g.T.Text.whole c.args.t.now) (c.crumbs_known-known.ensures.storage c.requires.known) c.count-count.ensures.value in
+    let long = long8 (g.T.Text.part c.args.t.now).storage c.count-count.result (g.T.Text.part c.args.t.now).whole (c.crumbs_known-known.ensures.storage c.requires.known) c.count-count.ensures.value in
     omega (arith, over.1.within, long, c.count-count.ensures.small)
 
 pub index_of_crumb-requires-clause-most : goal.index_of_crumb-requires-clause-most
@@ -76,17 +77,17 @@ index_of_crumb-requires-clause-most g c =
     over.1.few
 
 -- how many words the walk reads
-pub read : (g : Over) (old now : g.row.T.Denot) (n m from o word : ℕ) → now ≡ old → from ≡ position_of word → FromCrumb (g.T.Text.whole old) n m (down len_utf16 (g.T.Text.whole old) o) word
-    → words_through (g.T.Text.whole now) (down len_utf8 (g.T.Text.whole now) from) (down len_utf16 (g.T.Text.whole now) o)
-    ≡ words_through (g.T.Text.whole old) (down len_utf16 (g.T.Text.whole old) m) (down len_utf16 (g.T.Text.whole old) o)
+pub read : (g : Over) (old now : g.row.T.Denot) (n m from o word : ℕ) → now ≡ old → from ≡ position_of word → FromCrumb (g.T.Text.part old).whole n m (down len_utf16 (g.T.Text.part old).whole o) word
+    → words_through (g.T.Text.part now).whole (down len_utf8 (g.T.Text.part now).whole from) (down len_utf16 (g.T.Text.part now).whole o)
+    ≡ words_through (g.T.Text.part old).whole (down len_utf16 (g.T.Text.part old).whole m) (down len_utf16 (g.T.Text.part old).whole o)
 read g old now n m from o word same at f =
-    let b = g.T.Text.whole old in
-    ap (λ t. words_through (g.T.Text.whole t) (down len_utf8 (g.T.Text.whole t) from) (down len_utf16 (g.T.Text.whole t) o)) same
+    let b = (g.T.Text.part old).whole in
+    ap (λ t. words_through (g.T.Text.part t).whole (down len_utf8 (g.T.Text.part t).whole from) (down len_utf16 (g.T.Text.part t).whole o)) same
     ∙ ap (λ j. words_through b j (down len_utf16 b o)) (ap (down len_utf8 b) at ∙ f.number)
 
 pub returns-clause-few : goal.returns-clause-few
 returns-clause-few g c =
-    let b = g.T.Text.whole c.args.t.now in
+    let b = (g.T.Text.part c.args.t.now).whole in
     let f = starts g c.args.t.now _ g.T.Text.STRIDE c.stride-stride.result c.args.offset c.for_offset-crumb.result c.length16-high.ensures.kept c.stride-stride.ensures c.requires.some
     (omega (arith, c.if-offset-high.false, c.length16-high.ensures.value)) c.for_offset-crumb.ensures.value in
     let words = read g c.args.t.now _ g.T.Text.STRIDE _ _ c.args.offset _ (c.for_offset-crumb.ensures.kept ∙ c.length16-high.ensures.kept) c.position.ensures.value f in
@@ -95,7 +96,7 @@ returns-clause-few g c =
 
 pub returns-clause-cost : goal.returns-clause-cost
 returns-clause-cost g c =
-    let b = g.T.Text.whole c.args.t.now in
+    let b = (g.T.Text.part c.args.t.now).whole in
     let o = c.args.offset in
     let n = g.T.Text.STRIDE in
     let f = starts g c.args.t.now _ g.T.Text.STRIDE c.stride-stride.result c.args.offset c.for_offset-crumb.result c.length16-high.ensures.kept c.stride-stride.ensures c.requires.some
@@ -108,7 +109,7 @@ returns-clause-cost g c =
 
 pub returns-clause-index : goal.returns-clause-index
 returns-clause-index g c =
-    let b = g.T.Text.whole c.args.t.now in
+    let b = (g.T.Text.part c.args.t.now).whole in
     let over = ends g c.args.t.now _ c.args.offset _ _ _ (c.for_offset-crumb.ensures.kept ∙ c.length16-high.ensures.kept)
     (omega (arith, c.if-offset-high.false, c.length16-high.ensures.value)) c.scalar_over-scalar.ensures.stands in (
       omega (arith, c.if-offset-high.false, c.length16-high.ensures.value),

@@ -9,17 +9,17 @@ use Rattle.unit_views.proofs.back.walk_back.Goals as goal
 
 pub returns-then-room-from-clause-cause : goal.returns-then-room-from-clause-cause
 returns-then-room-from-clause-cause g c =
-    let starts = ascii_starts c.args.view (g.T.Text.storage c.args.t.now) (g.T.Text.whole c.args.t.now) (c.ascii.ensures.below (sym c.ascii.ensures.value ∙ c.if-ascii.true)) in
+    let starts = ascii_starts c.args.view (g.T.Text.part c.args.t.now).storage (g.T.Text.part c.args.t.now).whole (c.ascii.ensures.below (sym c.ascii.ensures.value ∙ c.if-ascii.true)) in
     (λ _. omega (arith, starts c.args.from c.requires.inside, starts c.args.to (omega (arith, c.requires.order, c.requires.inside)), c.if-room-from.true, c.requires.order), λ _. refl)
 
 pub returns-else-room-from-clause-walked : goal.returns-else-room-from-clause-walked
 returns-else-room-from-clause-walked g c =
-    back_ascii c.args.view (g.T.Text.storage c.args.t.now) (g.T.Text.whole c.args.t.now) (c.ascii.ensures.below (sym c.ascii.ensures.value ∙ c.if-ascii.true))
+    back_ascii c.args.view (g.T.Text.part c.args.t.now).storage (g.T.Text.part c.args.t.now).whole (c.ascii.ensures.below (sym c.ascii.ensures.value ∙ c.if-ascii.true))
     c.args.from c.args.to c.args.room c.requires.order c.requires.inside (omega (arith, c.if-room-from.false))
 
 pub returns-else-room-from-clause-cause : goal.returns-else-room-from-clause-cause
 returns-else-room-from-clause-cause g c =
-    let starts = ascii_starts c.args.view (g.T.Text.storage c.args.t.now) (g.T.Text.whole c.args.t.now) (c.ascii.ensures.below (sym c.ascii.ensures.value ∙ c.if-ascii.true)) in
+    let starts = ascii_starts c.args.view (g.T.Text.part c.args.t.now).storage (g.T.Text.part c.args.t.now).whole (c.ascii.ensures.below (sym c.ascii.ensures.value ∙ c.if-ascii.true)) in
     (λ e. cc, λ h. absurd (omega (arith, h, starts c.args.from c.requires.inside, starts c.args.to (omega (arith, c.requires.order, c.requires.inside)), c.if-room-from.false)))
 
 pub overflow_add-reached : goal.overflow_add-reached
@@ -28,14 +28,14 @@ overflow_add-reached g c =
       arith,
       c.elements.invariant.counted,
       c.back_elements-previous.ensures.backs.few,
-      back_most c.args.view (g.T.Text.storage c.args.t.now) (g.T.Text.whole c.args.t.now) c.args.from c.requires.inside (omega (arith, c.count-count.ensures.value, c.count-count.ensures.small)),
+      back_most c.args.view (g.T.Text.part c.args.t.now).storage (g.T.Text.part c.args.t.now).whole c.args.from c.requires.inside (omega (arith, c.count-count.ensures.value, c.count-count.ensures.small)),
     )
 
 pub returns-clause-cause : goal.returns-clause-cause
 returns-clause-cause g c =
     let now = c.elements.invariant in
-    let w = width_in (g.T.Text.storage c.args.t.now) in
-    let b = g.T.Text.whole c.args.t.now in (
+    let w = width_in (g.T.Text.part c.args.t.now).storage in
+    let b = (g.T.Text.part c.args.t.now).whole in (
       λ e. cc,
       λ h. absurd (omega (
         arith,
@@ -48,16 +48,16 @@ returns-clause-cause g c =
 
 pub returns-then-room-from-clause-pass : goal.returns-then-room-from-clause-pass
 returns-then-room-from-clause-pass g c =
-    omega (arith, down-mono (width_in (g.T.Text.storage c.args.t.now)) (g.T.Text.whole c.args.t.now) c.args.to c.args.from c.requires.order)
+    omega (arith, down-mono (width_in (g.T.Text.part c.args.t.now).storage) (g.T.Text.part c.args.t.now).whole c.args.to c.args.from c.requires.order)
 
 pub returns-else-room-from-clause-pass : goal.returns-else-room-from-clause-pass
 returns-else-room-from-clause-pass g c =
-    omega (arith, down-mono (width_in (g.T.Text.storage c.args.t.now)) (g.T.Text.whole c.args.t.now) c.args.to c.args.from c.requires.order)
+    omega (arith, down-mono (width_in (g.T.Text.part c.args.t.now).storage) (g.T.Text.part c.args.t.now).whole c.args.to c.args.from c.requires.order)
 
 pub returns-clause-pass : goal.returns-clause-pass
 returns-clause-pass g c =
     omega (
       arith,
       c.elements.invariant.pass,
-      down-mono (width_in (g.T.Text.storage c.args.t.now)) (g.T.Text.whole c.args.t.now) c.args.to c.elements.at c.elements.invariant.within,
+      down-mono (width_in (g.T.Text.part c.args.t.now).storage) (g.T.Text.part c.args.t.now).whole c.args.to c.elements.at c.elements.invariant.within,
     )

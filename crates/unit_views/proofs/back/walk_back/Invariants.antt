@@ -1,7 +1,7 @@
 use Rattle.std.proofs.Common.{◌≡◌, suc, ◌+◌, ◌-◌, ◌*◌, ◌<◌, ◌≤◌}
 use Rattle.text_spec.specs.Offsets.{start, down}
 use Rattle.text_spec.specs.Views.{width_in}
-use Rattle.unit_views.specs.declared.view.View.TheVariants.{Scalars}
+use Rattle.unit_views.specs.declared.kind.ElementKind.TheVariants.{Scalars}
 use Rattle.unit_views.specs.Elements.{view_width}
 use Rattle.unit_views.proofs.back.walk_back.Given as goal
 
@@ -9,9 +9,9 @@ use Rattle.unit_views.proofs.back.walk_back.Given as goal
 -- where there are too many, the place lies within the last scalar that was passed
 abbrev pub invariant-elements : goal.invariant-elements
 invariant-elements g l =
-    let w = width_in (g.T.Text.storage l.fn.t) in
+    let w = width_in (g.T.Text.part l.fn.t).storage in
     let v = view_width l.view in
-    let b = g.T.Text.whole l.fn.t in
+    let b = (g.T.Text.part l.fn.t).whole in
     record {
       same : l.t ≡ l.fn.t;
       before : l.at ≤ l.from;

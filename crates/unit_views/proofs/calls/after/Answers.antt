@@ -1,12 +1,12 @@
 use Rattle.std.proofs.Common.{◌≡◌, ap, subst, ◌∙◌, ℕ, ◌+◌, ◌<◌, ◌≤◌, inr, Some, arith}
-use Rattle.unit_views.specs.declared.view.View.{View}
+use Rattle.unit_views.specs.declared.kind.ElementKind.{ElementKind}
 use Rattle.unit_views.specs.Elements.{element_count, element_index, leaves_text}
 use Rattle.unit_views.specs.Spots.{spot_offset}
 use Rattle.unit_views.proofs.calls.after.Given.{Over}
 use Rattle.unit_views.proofs.calls.after.Goals as goal
 
-abbrev offset_in : (g : Over) → g.row.T.Denot → View → ℕ → ℕ → ℕ
-offset_in g t view at past = spot_offset view (g.T.Text.storage t) (g.T.Text.whole t) (g.T.Text.first t) at past
+abbrev offset_in : (g : Over) → g.row.T.Denot → ElementKind → ℕ → ℕ → ℕ
+offset_in g t view at past = spot_offset view (g.T.Text.part t) at past
 
 pub returns-in-Ok-ahead-clause-next : goal.returns-in-Ok-ahead-clause-next
 returns-in-Ok-ahead-clause-next g c =
@@ -15,13 +15,13 @@ returns-in-Ok-ahead-clause-next g c =
     let here = c.in-Ok.spot in
     let there = c.in-Ok-ahead.next in
     let moved = subst (λ t. offset_in g t view there.at there.past ≡ offset_in g t view here.at here.past + 1) c.spot_of.ensures.kept c.in-Ok-ahead.ensures.moved in
-    let counted = subst (λ t. offset_in g t view there.at there.past ≤ element_count view (g.T.Text.whole t) (g.T.Text.first t) (g.T.Text.end t)) c.spot_of.ensures.kept c.in-Ok-ahead.ensures.spot.counted in
-    let index = subst (λ t. c.index_of.result ≡ element_index view (g.T.Text.storage t) (g.T.Text.whole t) (g.T.Text.first t) (offset_in g t view there.at there.past))
+    let counted = subst (λ t. offset_in g t view there.at there.past ≤ element_count view (g.T.Text.part t)) c.spot_of.ensures.kept c.in-Ok-ahead.ensures.spot.counted in
+    let index = subst (λ t. c.index_of.result ≡ element_index view (g.T.Text.part t) (offset_in g t view there.at there.past))
     (c.ahead.ensures.kept ∙ c.spot_of.ensures.kept) c.index_of.ensures.index in (
       offset_in g t view here.at here.past,
       c.in-Ok.ensures.offset,
       omega (arith, moved, counted),
-      index ∙ ap (element_index view (g.T.Text.storage t) (g.T.Text.whole t) (g.T.Text.first t)) moved,
+      index ∙ ap (element_index view (g.T.Text.part t)) moved,
     )
 
 pub returns-in-Err-ahead-clause-refused : goal.returns-in-Err-ahead-clause-refused
@@ -29,8 +29,8 @@ returns-in-Err-ahead-clause-refused g c =
     let t = c.args.t.now in
     let view = c.args.view in
     let here = c.in-Ok.spot in
-    let left = subst (λ t. (offset_in g t view here.at here.past + c.in-Err-ahead.field-0 ≡ element_count view (g.T.Text.whole t) (g.T.Text.first t) (g.T.Text.end t)) × (c.in-Err-ahead.field-0 < 1)) c.spot_of.ensures.kept c.in-Err-ahead.ensures.left in
-    let last : offset_in g t view here.at here.past ≡ element_count view (g.T.Text.whole t) (g.T.Text.first t) (g.T.Text.end t) = omega (arith, left.0, left.1) in
-    let leaves = subst (λ t. c.leaving.result ≡ leaves_text view (g.T.Text.storage t) (g.T.Text.whole t) (g.T.Text.first t) (g.T.Text.end t) (offset_in g t view here.at here.past))
+    let left = subst (λ t. (offset_in g t view here.at here.past + c.in-Err-ahead.field-0 ≡ element_count view (g.T.Text.part t)) × (c.in-Err-ahead.field-0 < 1)) c.spot_of.ensures.kept c.in-Err-ahead.ensures.left in
+    let last : offset_in g t view here.at here.past ≡ element_count view (g.T.Text.part t) = omega (arith, left.0, left.1) in
+    let leaves = subst (λ t. c.leaving.result ≡ leaves_text view (g.T.Text.part t).storage (g.T.Text.part t).whole (g.T.Text.part t).first (g.T.Text.part t).end (offset_in g t view here.at here.past))
     (c.ahead.ensures.kept ∙ c.spot_of.ensures.kept) c.leaving.ensures in
-    inr (c.in-Ok.ensures.offset ∙ ap Some last, leaves ∙ ap (leaves_text view (g.T.Text.storage t) (g.T.Text.whole t) (g.T.Text.first t) (g.T.Text.end t)) last)
+    inr (c.in-Ok.ensures.offset ∙ ap Some last, leaves ∙ ap (leaves_text view (g.T.Text.part t).storage (g.T.Text.part t).whole (g.T.Text.part t).first (g.T.Text.part t).end) last)

@@ -1,13 +1,13 @@
 use Rattle.std.proofs.Common.{◌≡◌, subst, ◌∙◌, ℕ, Some, pos, ◌+ℤ◌, arith, to_z-of_z}
 use Rattle.std.proofs.lemmas.Int.{ints}
-use Rattle.unit_views.specs.declared.view.View.{View}
+use Rattle.unit_views.specs.declared.kind.ElementKind.{ElementKind}
 use Rattle.unit_views.specs.Elements.{element_offset}
 use Rattle.unit_views.specs.Spots.{spot_offset}
 use Rattle.unit_views.proofs.calls.distance.Given.{Over}
 use Rattle.unit_views.proofs.calls.distance.Goals as goal
 
-abbrev offset_in : (g : Over) → g.row.T.Denot → View → ℕ → ℕ → ℕ
-offset_in g t view at past = spot_offset view (g.T.Text.storage t) (g.T.Text.whole t) (g.T.Text.first t) at past
+abbrev offset_in : (g : Over) → g.row.T.Denot → ElementKind → ℕ → ℕ → ℕ
+offset_in g t view at past = spot_offset view (g.T.Text.part t) at past
 
 pub returns-clause-elements : goal.returns-clause-elements
 returns-clause-elements g c =
@@ -20,7 +20,7 @@ returns-clause-elements g c =
       offset_in g t view here.at here.past,
       offset_in g t view there.at there.past,
       c.in-Ok.ensures.offset,
-      subst (λ t. element_offset view (g.T.Text.storage t) (g.T.Text.whole t) (g.T.Text.first t) (g.T.Text.end t) c.args.to ≡ Some (offset_in g t view there.at there.past))
+      subst (λ t. element_offset view (g.T.Text.part t) c.args.to ≡ Some (offset_in g t view there.at there.past))
           c.spot_of.ensures.kept c.in-Ok-spot_of.ensures.offset,
       grind (arith, ints, to_z-of_z),
     )

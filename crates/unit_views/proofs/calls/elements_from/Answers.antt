@@ -6,5 +6,5 @@ use Rattle.unit_views.proofs.calls.elements_from.Goals as goal
 pub returns-clause-cost : goal.returns-clause-cost
 returns-clause-cost g c =
     let is = c.bounds-low.ensures in
-    let numbers = spot_numbers c.args.view (g.T.Text.storage c.args.t.now) (g.T.Text.whole c.args.t.now) (g.T.Text.first c.args.t.now) (g.T.Text.end c.args.t.now) (order_of _ _ _ _ _ _ is) is.end_inside (omega (arith, is.high_is, is.high_small)) in
+    let numbers = spot_numbers c.args.view (g.T.Text.part c.args.t.now).storage (g.T.Text.part c.args.t.now).whole (g.T.Text.part c.args.t.now).first (g.T.Text.part c.args.t.now).end (order_of _ _ _ _ _ _ is) is.end_inside (omega (arith, is.high_is, is.high_small)) in
     omega (arith, c.elements_between.ensures.pass, (numbers c.args.from.at c.args.from.past c.requires.from).0, (numbers c.args.to.at c.args.to.past c.requires.to).1)

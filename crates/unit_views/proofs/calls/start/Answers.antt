@@ -8,10 +8,10 @@ use Rattle.unit_views.proofs.calls.start.Goals as goal
 
 pub returns : goal.returns
 returns g c =
-    let e = g.T.Text.storage c.args.t.now in
-    let b = g.T.Text.whole c.args.t.now in
+    let e = (g.T.Text.part c.args.t.now).storage in
+    let b = (g.T.Text.part c.args.t.now).whole in
     let is = c.bounds-low.ensures in
-    start_index c.args.view e b (g.T.Text.first c.args.t.now) (g.T.Text.end c.args.t.now)
+    start_index c.args.view e b (g.T.Text.part c.args.t.now).first (g.T.Text.part c.args.t.now).end
     (omega (arith, is.first_is, is.end_is, down-mono (width_in e) b c.bounds-low.result.0 c.bounds-low.result.1 is.order)) is.end_inside (omega (arith, is.high_is, is.high_small)) _
     (index_at_told _ e b (0 == 0) c.bounds-low.result.0 0 _ c.encoding.ensures (boundary_told e b c.bounds-low.result.0 0 is.low_boundary) c.index_from.ensures
-    ∙ ap (λ p. index_at e b (p, 0)) is.low_is)
+    ∙ ap (λ p. index_at (all_of e b) (p, 0)) is.low_is)

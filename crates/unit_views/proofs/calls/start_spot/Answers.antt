@@ -8,6 +8,6 @@ pub returns-clause-spot : goal.returns-clause-spot
 returns-clause-spot g c =
     let is = c.bounds-low.ensures in
     let order = order_of _ _ _ _ _ _ is in
-    subst (λ p. IsSpot c.args.view (g.T.Text.storage c.args.t.now) (g.T.Text.whole c.args.t.now) (g.T.Text.first c.args.t.now) (g.T.Text.end c.args.t.now) p 0) (sym is.low_is)
-    (edge_spot c.args.view (g.T.Text.storage c.args.t.now) (g.T.Text.whole c.args.t.now) (g.T.Text.first c.args.t.now) (g.T.Text.end c.args.t.now) order is.end_inside (omega (arith, is.high_is, is.high_small))
-    (g.T.Text.first c.args.t.now) (omega arith) order).0
+    subst (λ p. IsSpot c.args.view (g.T.Text.part c.args.t.now) p 0) (sym is.low_is)
+    (edge_spot c.args.view (g.T.Text.part c.args.t.now).storage (g.T.Text.part c.args.t.now).whole (g.T.Text.part c.args.t.now).first (g.T.Text.part c.args.t.now).end order is.end_inside (omega (arith, is.high_is, is.high_small))
+    (g.T.Text.part c.args.t.now).first (omega arith) order).0

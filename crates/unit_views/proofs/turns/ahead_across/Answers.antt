@@ -7,13 +7,13 @@ use Rattle.unit_views.proofs.turns.ahead_across.Goals.{else-at-high-via-then-at-
 pub overflow_sub-result : goal.overflow_sub-result
 overflow_sub-result g c =
     let is = c.bounds-low.ensures in
-    (ahead_end c.args.view (g.T.Text.storage c.args.t.now) (g.T.Text.whole c.args.t.now) (g.T.Text.first c.args.t.now) (g.T.Text.end c.args.t.now) (order_of _ _ _ _ _ _ is) is.end_inside (omega (arith, is.high_is, is.high_small))
+    (ahead_end c.args.view (g.T.Text.part c.args.t.now).storage (g.T.Text.part c.args.t.now).whole (g.T.Text.part c.args.t.now).first (g.T.Text.part c.args.t.now).end (order_of _ _ _ _ _ _ is) is.end_inside (omega (arith, is.high_is, is.high_small))
     c.requires.across c.args.spot.at c.args.spot.past _ _ _ _ c.args.n c.requires.spot is.high_is c.walk_on-at.ensures.walked refl c.if-at-high.true c.if-past-gt0.true).0
 
 pub returns-then-past-gt0-clause-left : goal.returns-then-past-gt0-clause-left
 returns-then-past-gt0-clause-left g c =
     let is = c.bounds-low.ensures in
-    (ahead_end c.args.view (g.T.Text.storage c.args.t.now) (g.T.Text.whole c.args.t.now) (g.T.Text.first c.args.t.now) (g.T.Text.end c.args.t.now) (order_of _ _ _ _ _ _ is) is.end_inside (omega (arith, is.high_is, is.high_small))
+    (ahead_end c.args.view (g.T.Text.part c.args.t.now).storage (g.T.Text.part c.args.t.now).whole (g.T.Text.part c.args.t.now).first (g.T.Text.part c.args.t.now).end (order_of _ _ _ _ _ _ is) is.end_inside (omega (arith, is.high_is, is.high_small))
     c.requires.across c.args.spot.at c.args.spot.past _ _ _ _ c.args.n c.requires.spot is.high_is c.walk_on-at.ensures.walked refl c.if-at-high.true c.if-past-gt0.true).1
 
 pub returns-then-past-gt0-clause-cost : goal.returns-then-past-gt0-clause-cost
@@ -23,14 +23,14 @@ returns-then-past-gt0-clause-cost g c =
       arith,
       c.walk_on-at.ensures.pass,
       is.end_is,
-      (spot_numbers c.args.view (g.T.Text.storage c.args.t.now) (g.T.Text.whole c.args.t.now) (g.T.Text.first c.args.t.now) (g.T.Text.end c.args.t.now) (order_of _ _ _ _ _ _ is) is.end_inside (omega (arith, is.high_is, is.high_small))
+      (spot_numbers c.args.view (g.T.Text.part c.args.t.now).storage (g.T.Text.part c.args.t.now).whole (g.T.Text.part c.args.t.now).first (g.T.Text.part c.args.t.now).end (order_of _ _ _ _ _ _ is) is.end_inside (omega (arith, is.high_is, is.high_small))
           c.args.spot.at c.args.spot.past c.requires.spot).0,
     )
 
 pub returns-clause-spot : goal.returns-clause-spot
 returns-clause-spot g c =
     let is = c.bounds-low.ensures in
-    (ahead_spot c.args.view (g.T.Text.storage c.args.t.now) (g.T.Text.whole c.args.t.now) (g.T.Text.first c.args.t.now) (g.T.Text.end c.args.t.now) (order_of _ _ _ _ _ _ is) is.end_inside (omega (arith, is.high_is, is.high_small))
+    (ahead_spot c.args.view (g.T.Text.part c.args.t.now).storage (g.T.Text.part c.args.t.now).whole (g.T.Text.part c.args.t.now).first (g.T.Text.part c.args.t.now).end (order_of _ _ _ _ _ _ is) is.end_inside (omega (arith, is.high_is, is.high_small))
     c.requires.across c.args.spot.at c.args.spot.past _ _ _ _ c.args.n c.requires.spot is.high_is c.walk_on-at.ensures.walked refl
     (λ at_end. elim c.else-at-high.branch [
       | else-at-high-via-then-at-high+else-past-gt0 w ↦ omega (arith, w.if-past-gt0.false)
@@ -44,6 +44,6 @@ returns-clause-cost g c =
       arith,
       c.walk_on-at.ensures.pass,
       is.end_is,
-      (spot_numbers c.args.view (g.T.Text.storage c.args.t.now) (g.T.Text.whole c.args.t.now) (g.T.Text.first c.args.t.now) (g.T.Text.end c.args.t.now) (order_of _ _ _ _ _ _ is) is.end_inside (omega (arith, is.high_is, is.high_small))
+      (spot_numbers c.args.view (g.T.Text.part c.args.t.now).storage (g.T.Text.part c.args.t.now).whole (g.T.Text.part c.args.t.now).first (g.T.Text.part c.args.t.now).end (order_of _ _ _ _ _ _ is) is.end_inside (omega (arith, is.high_is, is.high_small))
           c.args.spot.at c.args.spot.past c.requires.spot).0,
     )

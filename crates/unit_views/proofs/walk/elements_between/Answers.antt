@@ -7,15 +7,15 @@ use Rattle.unit_views.proofs.walk.elements_between.Goals as goal
 
 pub returns-clause-value : goal.returns-clause-value
 returns-clause-value g c =
-    let e = g.T.Text.storage c.args.t.now in
-    let b = g.T.Text.whole c.args.t.now in
+    let e = (g.T.Text.part c.args.t.now).storage in
+    let b = (g.T.Text.part c.args.t.now).whole in
     let ends = walked_end c.args.view e b c.args.from c.args.to _ _ _ c.walk_on-at.ensures.walked c.requires.inside (omega (arith, c.count-count.ensures.value, c.count-count.ensures.small)) (omega arith) in
     c.walk_on-at.ensures.walked.counted ∙ ap (λ p. start (view_width c.args.view) b (down (width_in e) b p)) ends
 
 pub returns-clause-small : goal.returns-clause-small
 returns-clause-small g c =
-    let e = g.T.Text.storage c.args.t.now in
-    let b = g.T.Text.whole c.args.t.now in
+    let e = (g.T.Text.part c.args.t.now).storage in
+    let b = (g.T.Text.part c.args.t.now).whole in
     omega (
       arith,
       c.walk_on-at.ensures.walked.counted,

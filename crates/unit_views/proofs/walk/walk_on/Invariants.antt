@@ -7,9 +7,9 @@ use Rattle.unit_views.proofs.walk.walk_on.Given as goal
 -- the elements so far are counted, at two words at most for each scalar, and for each element
 abbrev pub invariant-elements : goal.invariant-elements
 invariant-elements g l =
-    let w = width_in (g.T.Text.storage l.fn.t) in
+    let w = width_in (g.T.Text.part l.fn.t).storage in
     let v = view_width l.view in
-    let b = g.T.Text.whole l.fn.t in
+    let b = (g.T.Text.part l.fn.t).whole in
     record {
       same : l.t ≡ l.fn.t;
       after : l.from ≤ l.at;

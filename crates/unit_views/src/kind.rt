@@ -5,7 +5,7 @@ use text_spec::Encoding;
 
 /// What the elements of a text are.
 #[derive(Clone, Copy, Debug)]
-pub enum View {
+pub enum ElementKind {
     /// Unicode scalars (The Unicode Standard, section 3.9, D76).
     Scalars,
     /// The code units of an encoding, be it the storage's or not.
@@ -13,16 +13,16 @@ pub enum View {
 }
 
 /// Whether the elements of the view are the code units of a storage in `encoding`.
-pub(crate) fn is_own(view: View, encoding: Encoding) -> bool
+pub(crate) fn is_own(view: ElementKind, encoding: Encoding) -> bool
     ensures { result ≡ elements.is_own view encoding }
 {
     match view {
-        View::Scalars => false,
-        View::Units(Encoding::Utf8) => match encoding {
+        ElementKind::Scalars => false,
+        ElementKind::Units(Encoding::Utf8) => match encoding {
             Encoding::Utf8 => true,
             Encoding::Utf16 => false,
         },
-        View::Units(Encoding::Utf16) => match encoding {
+        ElementKind::Units(Encoding::Utf16) => match encoding {
             Encoding::Utf8 => false,
             Encoding::Utf16 => true,
         },
