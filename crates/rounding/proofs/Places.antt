@@ -1,6 +1,7 @@
 -- Places that are in range or out of it, and the index of a place.
-use Rattle.std.proofs.Common.{◌≡◌, refl, sym, ap, ◌∙◌, ℕ, suc, ◌+◌, ◌-◌, ◌*◌, ◌/◌, ◌%◌, ◌^◌, ◌<◌, ◌≤◌, ◌==◌, ◌&&◌, Bool, true, false, nat_le, nat_lt, List, length, get_or, Some, None, arith, if◌then◌else◌}
+use Rattle.std.proofs.Common.{◌≡◌, refl, sym, ap, ◌∙◌, ℕ, suc, ◌+◌, ◌-◌, ◌*◌, ◌/◌, ◌%◌, ◌^◌, ◌<◌, ◌≤◌, ◌==◌, ◌&&◌, Bool, true, false, nat_le, nat_lt, List, length, get_or, Some, None, arith, if◌then◌else◌, Option}
 use Rattle.std.proofs.lemmas.Bool.{le-leb, lt-leb, lt-ltb, le-ltb, eqb-true, eqb-false}
+use Rattle.std.specs.Option.{option_map}
 use Rattle.text_spec.specs.declared.encoding.Encoding.{Encoding}
 use Rattle.text_spec.specs.declared.encoding.Encoding.TheVariants.{Utf8, Utf16}
 use Rattle.text_spec.specs.Offsets.{start, down}
@@ -281,3 +282,8 @@ units_passed e b first end i at next units floor passes =
     let stepped : start o b k + units ≡ start o b k + o (get_or b k 0) = sym passes.other ∙ (ap (start o b) (passes.number ∙ omega arith) ∙ start-suc o b k passes.inside) in
     let here : units ≡ o (get_or b k 0) = omega (arith, stepped) in
     here ∙ ap (λ n. o (get_or b n 0)) floor.number
+
+-- what has an image is something
+pub mapped_some : {A B : Type 0} (f : A → B) (o : Option A) (x : B) → option_map f o ≡ Some x → (a : A) × (o ≡ Some a)
+mapped_some f (Some a) x is = (a, refl)
+mapped_some f None x is = absurd cc

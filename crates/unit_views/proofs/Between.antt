@@ -9,6 +9,7 @@ use Rattle.text_spec.proofs.Walk.{start-mono, start-strict, down-start}
 use Rattle.text_spec.proofs.Widths.{width_some}
 use Rattle.rounding.specs.Resolving.{Bounds}
 use Rattle.word_units.specs.Walking.{Passes}
+use Rattle.word_units.specs.Parts.{part_of}
 
 pub down-mono : (w : ℕ → ℕ) (t : List ℕ) (p q : ℕ) → p ≤ q → down w t p ≤ down w t q
 down-mono w t p q h = down-greatest w t q (down w t p) (down-length w t p) (omega (arith, start-down w t p))
@@ -19,9 +20,9 @@ down-strict w t p q at_p at_q h =
     ⊎_elim (λ l. l) (λ g. absurd (omega (arith, at_p, at_q, h, start-mono w t (down w t q) (down w t p) g))) (cases_lt (down w t p) (down w t q))
 
 -- the next boundary isn't past a later one
-pub next_within : (e : Encoding) (b : List ℕ) (at next units to : ℕ) → Passes (part_of e b first end) at next units → start (width_in e) b (down (width_in e) b at) ≡ at
+pub next_within : (e : Encoding) (b : List ℕ) (first end at next units to : ℕ) → Passes (part_of e b first end) at next units → start (width_in e) b (down (width_in e) b at) ≡ at
     → start (width_in e) b (down (width_in e) b to) ≡ to → at < to → next ≤ to
-next_within e b at next units to p is at_to h =
+next_within e b first end at next units to p is at_to h =
     let w = width_in e in
     let below = down-strict w b at to is at_to h in
     omega (arith, p.boundary, at_to, start-mono w b (down w b next) (down w b to) (omega (arith, p.number, below)))

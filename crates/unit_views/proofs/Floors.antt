@@ -11,6 +11,7 @@ use Rattle.text_spec.proofs.Walk.{start-mono, start-suc}
 use Rattle.text_spec.proofs.Widths.{width_some}
 use Rattle.index_words.specs.Fields.{position_of, transcoded_of}
 use Rattle.std.specs.Option.{option_map}
+use Rattle.word_units.specs.Parts.{part_of, all_of}
 use Rattle.rounding.specs.Resolving.{Bounds, resolved, IsResolved, index_place, index_at, is_boundary}
 use Rattle.rounding.proofs.Ascii.{start-ascii, down-ascii, width_one, other_one}
 use Rattle.rounding.proofs.Places.{marked_place}
@@ -131,10 +132,10 @@ module _ (e : Encoding) (b : List ℕ) (below : (k : ℕ) → k < length b → g
   other-ascii : ◌≡◌ {A = Place} (position_of index, 0) (other_floor (width_in e) (other_width e) b (start (width_in e) b end) (index_place index))
   other-ascii = ap (λ p. (p, 0)) (sym boundary-ascii) ∙ ap (λ x. (start (width_in e) b (down (width_in e) b (position_of index)), x)) (sym kept-ascii)
 
-pub floor-ascii : (view : ElementKind) (e : Encoding) (b : List ℕ) → ((k : ℕ) → k < length b → get_or b k 0 < 0x80) → (index end : ℕ) → end ≤ length b → position_of index ≤ start (width_in e) b end
+pub floor-ascii : (view : ElementKind) (e : Encoding) (b : List ℕ) → ((k : ℕ) → k < length b → get_or b k 0 < 0x80) → (first index end : ℕ) → end ≤ length b → position_of index ≤ start (width_in e) b end
     → ◌≡◌ {A = Place} (position_of index, 0) (floor_of view (part_of e b first end) (index_place index))
-floor-ascii Scalars e b below index end inside high = ap (λ p. (p, 0)) (sym (boundary-ascii e b below index end inside high))
-floor-ascii (Units Utf8) Utf8 b below index end inside high = refl
-floor-ascii (Units Utf8) Utf16 b below index end inside high = other-ascii Utf16 b below index end inside high
-floor-ascii (Units Utf16) Utf8 b below index end inside high = other-ascii Utf8 b below index end inside high
-floor-ascii (Units Utf16) Utf16 b below index end inside high = refl
+floor-ascii Scalars e b below first index end inside high = ap (λ p. (p, 0)) (sym (boundary-ascii e b below index end inside high))
+floor-ascii (Units Utf8) Utf8 b below first index end inside high = refl
+floor-ascii (Units Utf8) Utf16 b below first index end inside high = other-ascii Utf16 b below index end inside high
+floor-ascii (Units Utf16) Utf8 b below first index end inside high = other-ascii Utf8 b below index end inside high
+floor-ascii (Units Utf16) Utf16 b below first index end inside high = refl

@@ -6,6 +6,7 @@ use Rattle.text_spec.specs.Offsets.{start, down}
 use Rattle.text_spec.specs.Views.{width_in}
 use Rattle.text_spec.proofs.Downward.{down-greatest}
 use Rattle.text_spec.proofs.Walk.{start-mono}
+use Rattle.word_units.specs.Parts.{part_of, all_of}
 use Rattle.unit_views.specs.declared.kind.ElementKind.{ElementKind}
 use Rattle.rounding.specs.Resolving.{index_at}
 use Rattle.unit_views.specs.Elements.{is_own, view_width, element_count, element_index}

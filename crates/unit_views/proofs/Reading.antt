@@ -12,6 +12,7 @@ use Rattle.text_spec.proofs.Downward.{down-greatest}
 use Rattle.text_spec.proofs.Lengths.{start-utf8, start-utf16}
 use Rattle.text_spec.proofs.Units.{unit-covers, length-utf16}
 use Rattle.text_spec.proofs.Walk.{start-le, start-mono, start-suc, down-unique}
+use Rattle.word_units.specs.Parts.{part_of}
 use Rattle.unit_views.specs.declared.kind.ElementKind.TheVariants.{Scalars, Units}
 use Rattle.unit_views.specs.Elements.{is_own, view_width, elements, units_of_text, units_of_scalar}
 use Rattle.unit_views.specs.Spots.{IsSpot, spot_offset}

@@ -7,6 +7,7 @@ use Rattle.text_spec.specs.Rounding.{Place, across, other_offset, other_index}
 use Rattle.text_spec.specs.Views.{width_in}
 use Rattle.text_spec.proofs.Downward.{down-length, down-greatest}
 use Rattle.text_spec.proofs.Walk.{start-mono, start-suc, start-strict, down-start, down-unique}
+use Rattle.word_units.specs.Parts.{part_of, all_of}
 use Rattle.rounding.specs.Resolving.{index_at}
 use Rattle.unit_views.specs.declared.kind.ElementKind.{ElementKind}
 use Rattle.unit_views.specs.declared.kind.ElementKind.TheVariants.{Scalars, Units}
@@ -16,16 +17,16 @@ use Rattle.unit_views.proofs.Between.{down-mono, down-strict, number-start, boun
 use Rattle.unit_views.proofs.Widths.{view_some, view_most, own_width, other_is, start-ones, count-is}
 
 -- what the definitions say of a place
-record Placed (view : ElementKind) (e : Encoding) (b : List ℕ) (first at past offset : ℕ) : Type 0 where
+record Placed (view : ElementKind) (e : Encoding) (b : List ℕ) (first end at past offset : ℕ) : Type 0 where
   pub offset_is : offset_of view (part_of e b first end) (at, past) ≡ offset
   pub place_is : ◌≡◌ {A = Place} (element_place view (part_of e b first end) offset) (at, past)
 
-across_placed : (view : ElementKind) (e : Encoding) (b : List ℕ) (first at past : ℕ) → is_own view e ≡ false
+across_placed : (view : ElementKind) (e : Encoding) (b : List ℕ) (first end at past : ℕ) → is_own view e ≡ false
     → start (width_in e) b (down (width_in e) b at) ≡ at → first ≤ down (width_in e) b at
     → down (view_width view) b (start (view_width view) b (down (width_in e) b at) + past) ≡ down (width_in e) b at
     → (past ≡ 0) ⊎ (past < view_width view (get_or b (down (width_in e) b at) 0))
-    → Placed view e b first at past (start (view_width view) b (down (width_in e) b at) + past - start (view_width view) b first)
-across_placed Scalars e b first at past other boundary after number few =
+    → Placed view e b first end at past (start (view_width view) b (down (width_in e) b at) + past - start (view_width view) b first)
+across_placed Scalars e b first end at past other boundary after number few =
     let w = width_in e in
     let k = down w b at in
     let inside = down-length w b at in
@@ -35,7 +36,7 @@ across_placed Scalars e b first at past other boundary after number few =
     let place : ◌≡◌ {A = Place} (element_place Scalars (part_of e b first end) (k - first)) (at, past) =
     ap (λ n. (start w b n, 0)) {x = first + (k - first)} {y = k} (omega (arith, after)) ∙ ap (λ p. (p, 0)) boundary ∙ ap (λ n. (at, n)) (sym none) in
     record { offset_is = sym offset; place_is = ap (element_place Scalars (part_of e b first end)) offset ∙ place }
-across_placed (Units encoding) e b first at past other boundary after number few =
+across_placed (Units encoding) e b first end at past other boundary after number few =
     let w = width_in e in
     let v = width_in encoding in
     let k = down w b at in
@@ -50,10 +51,10 @@ across_placed (Units encoding) e b first at past other boundary after number few
           ∙ ap (λ n. (start w b n, u - start v b n)) number ∙ ap (λ p. (p, u - start v b k)) boundary ∙ ap (λ n. (at, n)) rest;
     }
 
-own_placed : (view : ElementKind) (e : Encoding) (b : List ℕ) (first at : ℕ) → is_own view e ≡ true → start (width_in e) b first ≤ at
-    → Placed view e b first at 0 (at - start (width_in e) b first)
-own_placed Scalars e b first at own low = absurd cc
-own_placed (Units encoding) e b first at own low = record {
+own_placed : (view : ElementKind) (e : Encoding) (b : List ℕ) (first end at : ℕ) → is_own view e ≡ true → start (width_in e) b first ≤ at
+    → Placed view e b first end at 0 (at - start (width_in e) b first)
+own_placed Scalars e b first end at own low = absurd cc
+own_placed (Units encoding) e b first end at own low = record {
   offset_is = cond-true _ _ _ own;
   place_is = cond-true _ _ _ own ∙ ap (λ p. (p, 0)) {x = start (width_in e) b first + (at - start (width_in e) b first)} {y = at} (omega (arith, low));
 }
@@ -83,7 +84,7 @@ module _ (view : ElementKind) (e : Encoding) (b : List ℕ) (first end : ℕ) (o
       ⊎_elim (λ l. down-unique v b (start v b k + past) k (omega (arith, before l, inside)) (omega arith) (more l))
       (λ g. ap (down v b) {x = start v b k + past} {y = start v b k} (omega (arith, ends (omega (arith, high, g)))) ∙ down-start v (view_some view) b k (down-length w b at))
       (cases_lt at (start w b end)) in
-      let placed = across_placed view e b first at past other boundary after number
+      let placed = across_placed view e b first end at past other boundary after number
       (⊎_elim (λ l. inr (width l)) (λ g. inl (ends (omega (arith, high, g)))) (cases_lt at (start w b end))) in
       let elements : elements_before view (all_of e b) at past ≡ start v b k + past = cond-false _ _ _ other in
       let offset : spot_offset view (part_of e b first end) at past ≡ start v b k + past - start v b first = ap (λ n. n - start v b first) elements in
@@ -120,7 +121,7 @@ module _ (view : ElementKind) (e : Encoding) (b : List ℕ) (first end : ℕ) (o
       let ends : start (view_width view) b end ≡ start w b end = ap (λ f. start f b end) same in
       let elements : elements_before view (all_of e b) at 0 ≡ at = cond-true _ _ _ own in
       let offset : spot_offset view (part_of e b first end) at 0 ≡ at - start w b first = omega (arith, elements, firsts) in
-      let placed = own_placed view e b first at own low in
+      let placed = own_placed view e b first end at own low in
       let place : ◌≡◌ {A = Place} (element_place view (part_of e b first end) (spot_offset view (part_of e b first end) at 0)) (at, 0) = ap (element_place view (part_of e b first end)) offset ∙ placed.place_is in
       let total = count-is view b first end order inside in
       record {

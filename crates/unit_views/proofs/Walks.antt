@@ -9,6 +9,7 @@ use Rattle.text_spec.proofs.Walk.{start-suc, start-mono, start-le, start-strict,
 use Rattle.text_spec.proofs.Widths.{width_some}
 use Rattle.word_units.specs.Running.{PassesRun}
 use Rattle.word_units.specs.Walking.{Passes}
+use Rattle.word_units.specs.Parts.{part_of}
 use Rattle.rounding.proofs.Ascii.{start-ascii, down-ascii, width_one}
 use Rattle.unit_views.specs.declared.kind.ElementKind.{ElementKind}
 use Rattle.unit_views.specs.declared.kind.ElementKind.TheVariants.{Scalars, Units}
@@ -18,12 +19,12 @@ use Rattle.unit_views.proofs.Between.{down-mono, down-strict, Previous, previous
 use Rattle.unit_views.proofs.Widths.{other_is, start-ones, view_some, start-most}
 
 -- what is passed, once its elements are counted
-run_passing : (view : ElementKind) (e : Encoding) (b : List ℕ) (at to room most next units scalars count : ℕ) → PassesRun (part_of e b first end) at most next units scalars
+run_passing : (view : ElementKind) (e : Encoding) (b : List ℕ) (first end at to room most next units scalars count : ℕ) → PassesRun (part_of e b first end) at most next units scalars
     → start (view_width view) b (down (width_in e) b next) ≡ start (view_width view) b (down (width_in e) b at) + count → 1 ≤ count
     → (scalars ≡ 1) ⊎ ((count ≤ most) × (next ≤ at + most))
     → at + most ≤ to → most ≤ room → start (width_in e) b (down (width_in e) b at) ≡ at → start (width_in e) b (down (width_in e) b to) ≡ to → at < to
     → Passing (width_in e) (view_width view) b at to room next count
-run_passing view e b at to room most next units scalars count p counted some size fits small begins ends before =
+run_passing view e b first end at to room most next units scalars count p counted some size fits small begins ends before =
     let w = width_in e in
     let k = down w b at in
     let less = down-strict w b at to begins ends before in
@@ -43,9 +44,9 @@ several : (units scalars count most next at : ℕ) → (scalars ≡ 1) ⊎ ((1 �
 several units scalars count most next at size same =
     ⊎_elim (λ is. inl is) (λ is. inr (⊎_elim (λ e. omega (arith, e, is.1, is.2)) (λ e. omega (arith, e, is.2)) same, is.3)) size
 
-pub its_units : (encoding e : Encoding) (b : List ℕ) (at next more : ℕ) → is_own (Units encoding) e ≡ false → Passes (part_of e b first end) at next more
+pub its_units : (encoding e : Encoding) (b : List ℕ) (first end at next more : ℕ) → is_own (Units encoding) e ≡ false → Passes (part_of e b first end) at next more
     → start (width_in encoding) b (suc (down (width_in e) b at)) ≡ start (width_in encoding) b (down (width_in e) b at) + more
-its_units encoding e b at next more other p =
+its_units encoding e b first end at next more other p =
     let same = other_is encoding e other in
     let next_is : suc (down (width_in e) b at) ≡ down (width_in e) b next = omega (arith, p.number) in
     ap (start (width_in encoding) b) next_is ∙ ap (λ f. start f b (down (width_in e) b next)) (sym same) ∙ p.other
@@ -68,28 +69,28 @@ backing view e b at to q units begins ends after p counted some few =
     }
 
 -- by the view that the call is given
-pub passing_scalars : (view : ElementKind) (e : Encoding) (b : List ℕ) (at to room most next units scalars : ℕ) → view ≡ Scalars → PassesRun (part_of e b first end) at most next units scalars
+pub passing_scalars : (view : ElementKind) (e : Encoding) (b : List ℕ) (first end at to room most next units scalars : ℕ) → view ≡ Scalars → PassesRun (part_of e b first end) at most next units scalars
     → at + most ≤ to → most ≤ room → start (width_in e) b (down (width_in e) b at) ≡ at → start (width_in e) b (down (width_in e) b to) ≡ to → at < to
     → Passing (width_in e) (view_width view) b at to room next scalars
-passing_scalars view e b at to room most next units scalars is p fits small begins ends before =
+passing_scalars view e b first end at to room most next units scalars is p fits small begins ends before =
     let w = width_in e in
     let counted : start (view_width Scalars) b (down w b next) ≡ start (view_width Scalars) b (down w b at) + scalars =
     omega (arith, p.number, start-ones b (down w b next) (down-length w b next), start-ones b (down w b at) (down-length w b at)) in
     let some : 1 ≤ scalars = ⊎_elim (λ one. omega (arith, one)) (λ many. omega (arith, many.0)) p.size in
     subst (λ v. Passing w (view_width v) b at to room next scalars) (sym is)
-    (run_passing Scalars e b at to room most next units scalars scalars p counted some (several units scalars scalars most next at p.size (inl refl)) fits small begins ends before)
+    (run_passing Scalars e b first end at to room most next units scalars scalars p counted some (several units scalars scalars most next at p.size (inl refl)) fits small begins ends before)
 
-pub passing_units : (view : ElementKind) (encoding e : Encoding) (b : List ℕ) (at to room most next units scalars : ℕ) → view ≡ Units encoding → is_own view e ≡ false
+pub passing_units : (view : ElementKind) (encoding e : Encoding) (b : List ℕ) (first end at to room most next units scalars : ℕ) → view ≡ Units encoding → is_own view e ≡ false
     → PassesRun (part_of e b first end) at most next units scalars → at + most ≤ to → most ≤ room
     → start (width_in e) b (down (width_in e) b at) ≡ at → start (width_in e) b (down (width_in e) b to) ≡ to → at < to
     → Passing (width_in e) (view_width view) b at to room next units
-passing_units view encoding e b at to room most next units scalars is other p fits small begins ends before =
+passing_units view encoding e b first end at to room most next units scalars is other p fits small begins ends before =
     let w = width_in e in
     let same = other_is encoding e (subst (λ v. is_own v e ≡ false) is other) in
     let counted : start (width_in encoding) b (down w b next) ≡ start (width_in encoding) b (down w b at) + units =
     ap (λ f. start f b (down w b next)) (sym same) ∙ p.other ∙ ap (λ f. start f b (down w b at) + units) same in
     subst (λ v. Passing w (view_width v) b at to room next units) (sym is)
-    (run_passing (Units encoding) e b at to room most next units scalars units p counted p.some (several units scalars units most next at p.size (inr refl)) fits small begins ends before)
+    (run_passing (Units encoding) e b first end at to room most next units scalars units p counted p.some (several units scalars units most next at p.size (inr refl)) fits small begins ends before)
 
 -- the boundary before another
 pub record Back (e : Encoding) (b : List ℕ) (at q : ℕ) : Type 0 where
@@ -115,13 +116,13 @@ backing_scalars view e b at to q is begins ends after p =
     subst (λ v. Backing (width_in e) (view_width v) b at to q 1) (sym is)
     (backing Scalars e b at to q 1 begins ends after p.previous_is (start-suc (view_width Scalars) b (down (width_in e) b q) p.scalar) (omega arith) (omega arith))
 
-pub backing_units : (view : ElementKind) (encoding e : Encoding) (b : List ℕ) (at to q next more : ℕ) → view ≡ Units encoding → is_own view e ≡ false
+pub backing_units : (view : ElementKind) (encoding e : Encoding) (b : List ℕ) (first end at to q next more : ℕ) → view ≡ Units encoding → is_own view e ≡ false
     → start (width_in e) b (down (width_in e) b at) ≡ at → start (width_in e) b (down (width_in e) b to) ≡ to → to < at → Back e b at q → Passes (part_of e b first end) q next more
     → Backing (width_in e) (view_width view) b at to q more
-backing_units view encoding e b at to q next more is other begins ends after p passes =
+backing_units view encoding e b first end at to q next more is other begins ends after p passes =
     subst (λ v. Backing (width_in e) (view_width v) b at to q more) (sym is)
     (backing (Units encoding) e b at to q more begins ends after p.previous_is
-    (its_units encoding e b q next more (subst (λ v. is_own v e ≡ false) is other) passes) passes.some passes.few)
+    (its_units encoding e b first end q next more (subst (λ v. is_own v e ≡ false) is other) passes) passes.some passes.few)
 
 -- ---- in a text of ASCII
 pub view_one : (view : ElementKind) (c : ℕ) → c < 0x80 → view_width view c ≡ 1

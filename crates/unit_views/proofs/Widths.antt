@@ -9,7 +9,7 @@ use Rattle.text_spec.proofs.Units.{length-utf16}
 use Rattle.text_spec.proofs.Widths.{width_some, width_most}
 use Rattle.unit_views.specs.declared.kind.ElementKind.{ElementKind}
 use Rattle.unit_views.specs.declared.kind.ElementKind.TheVariants.{Scalars, Units}
-use Rattle.unit_views.specs.Elements.{same_encoding, is_own, view_width, elements, element_count}
+use Rattle.unit_views.specs.Elements.{same_encoding, is_own, view_width, elements}
 use Rattle.unit_views.proofs.Parts.{length-part, start-part}
 
 pub view_some : (view : ElementKind) (c : ℕ) → 0 < view_width view c
@@ -54,7 +54,7 @@ length-elements (Units Utf8) t = length-utf8 t
 length-elements (Units Utf16) t = length-utf16 t
 
 pub count-is : (view : ElementKind) (b : List ℕ) (first end : ℕ) → first ≤ end → end ≤ length b
-    → start (view_width view) b first + element_count view (part_of e b first end) ≡ start (view_width view) b end
+    → start (view_width view) b first + length (elements view (part b first end)) ≡ start (view_width view) b end
 count-is view b first end order inside =
     let long = length-elements view (part b first end) ∙ ap (start (view_width view) (part b first end)) (length-part b first end order inside) in
     omega (arith, long, start-part (view_width view) b first end (end - first) (omega (arith, order)), ap (start (view_width view) b) {x = first + (end - first)} {y = end} (omega (arith, order)))

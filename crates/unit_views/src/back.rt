@@ -1,7 +1,8 @@
 //! Walks back between scalar boundaries that count elements.
 ghost use Rattle.std.specs.Prelude.{◌≡◌, ◌+◌, ◌*◌, ◌<◌, ◌≤◌, ◌↔◌, true, false, None, IfSome};
-ghost use Rattle.text_spec.specs.Offsets.{start, down};
-ghost use Rattle.text_spec.specs.Views.{width_in, size_in};
+ghost use Rattle.text_spec.specs.Offsets.{start};
+ghost use Rattle.text_spec.specs.Views.{width_in};
+ghost use Rattle.word_units.specs.Parts.{storage_size, IsBoundaryIn, scalars_before};
 ghost use Rattle.unit_views.specs.declared.kind.ElementKind.TheVariants.{Scalars};
 ghost use Rattle.unit_views.specs.Elements.{is_own, view_width};
 ghost use Rattle.unit_views.specs.Spots.{WalkedBack};

@@ -3,9 +3,11 @@ ghost use Rattle.std.specs.Prelude.{◌-◌, ◌≡◌, ◌*◌, ◌+◌, ◌<�
 ghost use Rattle.std.specs.Int.RustNames.{unsigned_abs};
 ghost use Rattle.rounding.specs.Resolving.{reads_other};
 ghost use Rattle.unit_views.specs.declared.kind.ElementKind.TheVariants.{Scalars};
-ghost use Rattle.unit_views.specs.Elements.{is_own, element_count, element_index, element_offset, IsAfter, IsBefore, IsMoved, IsDistance, IsStopped, IsMoveOut, IsEitherOut, IsOutOfRange};
-ghost use Rattle.text_spec.specs.Offsets.{start, down};
-ghost use Rattle.text_spec.specs.Views.{width_in};
+ghost use Rattle.unit_views.specs.Elements.{is_own, element_count, element_index, element_offset, elements_of};
+ghost use Rattle.text_spec.specs.Offsets.{start};
+ghost use Rattle.word_units.specs.Parts.{low_of, scalars_before, scalars_in};
+ghost use Rattle.rounding.specs.Elements.{IsAfter, IsBefore, IsMoved, IsDistance, IsStopped, IsMoveOut};
+ghost use Rattle.rounding.specs.Refusals.{IsOutOfRange, IsEitherOut};
 ghost use Rattle.unit_views.specs.Spots.{IsSpot, spot_offset};
 
 use crate::spot::{Spot, index_of, leaving, spot_of};

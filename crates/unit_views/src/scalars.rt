@@ -1,9 +1,12 @@
 //! A text as Unicode scalars (The Unicode Standard, section 3.9, D76).
 ghost use Rattle.std.specs.Prelude.{◌-◌, ◌≡◌, ◌*◌, ◌+◌, ◌<◌, ◌≤◌, true, false, IfOk, IfErr, length};
 ghost use Rattle.std.specs.Int.RustNames.{unsigned_abs};
+ghost use Rattle.word_units.specs.Parts.{scalars_in};
 ghost use Rattle.rounding.specs.Resolving.{reads_other};
+ghost use Rattle.rounding.specs.Elements.{IsElement, IsAfter, IsBefore, IsMoved, IsDistance, IsStopped, IsMoveOut};
+ghost use Rattle.rounding.specs.Refusals.{IsEitherOut};
 ghost use Rattle.unit_views.specs.declared.kind.ElementKind.TheVariants.{Scalars};
-ghost use Rattle.unit_views.specs.Elements.{element_count, element_index, IsElement, IsAfter, IsBefore, IsMoved, IsDistance, IsStopped, IsMoveOut, IsEitherOut};
+ghost use Rattle.unit_views.specs.Elements.{element_count, element_index, elements_of};
 
 use crate::calls;
 use crate::spot::{leaving, spot_of};

@@ -1,11 +1,12 @@
 //! An element of a view as a place in the storage: what an index is rounded down to, and its index.
-ghost use Rattle.std.specs.Prelude.{◌≡◌, ◌+◌, ◌*◌, ◌<◌, ◌≤◌, ◌^◌, true, false, Some, IfOk, IfErr, length};
-ghost use Rattle.text_spec.specs.Offsets.{start};
-ghost use Rattle.text_spec.specs.Views.{width_in};
+ghost use Rattle.std.specs.Prelude.{◌≡◌, ◌+◌, ◌*◌, ◌<◌, ◌≤◌, true, false, Some, IfOk, IfErr, length};
 ghost use Rattle.text_spec.specs.Rounding.{Place};
+ghost use Rattle.word_units.specs.Parts.{high_of};
 ghost use Rattle.rounding.specs.Resolving.{IsResolved, reads_other, index_place, index_at};
+ghost use Rattle.rounding.specs.Elements.{leaves_text};
+ghost use Rattle.rounding.specs.Refusals.{IsOutOfRange};
 ghost use Rattle.unit_views.specs.declared.kind.ElementKind.TheVariants.{Scalars};
-ghost use Rattle.unit_views.specs.Elements.{is_own, element_offset, element_index, floor_of, leaves_text, IsOutOfRange};
+ghost use Rattle.unit_views.specs.Elements.{is_own, element_offset, element_index, floor_of, elements_of};
 ghost use Rattle.unit_views.specs.Spots.{IsSpot, spot_offset};
 
 use crate::kind::{ElementKind, is_own};

@@ -1,6 +1,7 @@
 //! From one element of a text to another.
 ghost use Rattle.std.specs.Prelude.{◌-◌, ◌≡◌, ◌*◌, ◌+◌, ◌<◌, ◌≤◌, ◌^◌, ◌↔◌, ◌⊎◌, true, false, None, IfSome, IfOk, IfErr, pos, ◌+ℤ◌, ◌<ℤ◌};
 ghost use Rattle.std.specs.Int.RustNames.{unsigned_abs};
+ghost use Rattle.word_units.specs.Parts.{scalars_in};
 ghost use Rattle.unit_views.specs.declared.kind.ElementKind.TheVariants.{Scalars};
 ghost use Rattle.unit_views.specs.Elements.{is_own, element_count};
 ghost use Rattle.unit_views.specs.Spots.{IsSpot, spot_offset};

@@ -1,14 +1,17 @@
 //! A text as code units of UTF-8 (The Unicode Standard, section 3.9, D92).
 ghost use Rattle.std.specs.Char.{encode_utf8, len_utf8};
 ghost use Rattle.text_spec.specs.Offsets.{start};
-ghost use Rattle.text_spec.specs.Views.{width_in, part};
+ghost use Rattle.text_spec.specs.Views.{part};
 ghost use Rattle.unit_views.specs.Spots.{IsSpot, spot_offset};
 ghost use Rattle.std.specs.Prelude.{◌-◌, slice_index, ◌≡◌, ◌*◌, ◌+◌, ◌<◌, ◌≤◌, true, false, IfOk, IfErr, length};
 ghost use Rattle.std.specs.Int.RustNames.{unsigned_abs};
 ghost use Rattle.rounding.specs.Resolving.{reads_other};
 ghost use Rattle.unit_views.specs.declared.kind.ElementKind.TheVariants.{Units};
 ghost use Rattle.text_spec.specs.declared.encoding.Encoding.TheVariants.{Utf8};
-ghost use Rattle.unit_views.specs.Elements.{elements, element_count, element_index, IsElement, IsAfter, IsBefore, IsMoved, IsDistance, IsStopped, IsMoveOut, IsEitherOut};
+ghost use Rattle.word_units.specs.Parts.{high_of, scalars_in, text_in};
+ghost use Rattle.rounding.specs.Elements.{IsElement, IsAfter, IsBefore, IsMoved, IsDistance, IsStopped, IsMoveOut};
+ghost use Rattle.rounding.specs.Refusals.{IsEitherOut};
+ghost use Rattle.unit_views.specs.Elements.{elements, element_count, element_index, elements_of};
 
 use crate::calls;
 use crate::spot::{Spot, leaving, spot_of};

@@ -1,12 +1,13 @@
 //! Questions about offsets that start from a breadcrumb.
-ghost use Rattle.std.specs.Prelude.{◌≡◌, ℕ, ◌+◌, ◌*◌, ◌/◌, ◌^◌, ◌<◌, ◌≤◌, true, false, Some, IfOk, IfErr};
+ghost use Rattle.std.specs.Prelude.{◌≡◌, ℕ, ◌+◌, ◌/◌, ◌^◌, ◌<◌, ◌≤◌, true, false, Some, IfOk, IfErr};
 ghost use Rattle.rounding.specs.Resolving.{reads_other};
 ghost use Rattle.index_words.specs.Crumbs.{size16};
 ghost use Rattle.index_words.specs.Fields.{position_of};
 ghost use Rattle.crumbs.specs.Searching.{IsLastCrumb, words_to_unit, words_to_byte};
 ghost use Rattle.text_spec.specs.declared.encoding.Encoding.TheVariants.{Utf8, Utf16};
-ghost use Rattle.unit_views.specs.declared.view.View.TheVariants.{Units};
-ghost use Rattle.unit_views.specs.Elements.{element_count, element_offset, element_index, IsOutOfRange};
+ghost use Rattle.rounding.specs.Refusals.{IsOutOfRange};
+ghost use Rattle.unit_views.specs.declared.kind.ElementKind.TheVariants.{Units};
+ghost use Rattle.unit_views.specs.Elements.{element_count, element_offset, element_index};
 
 use index_words::Index;
 use rounding::bounds;
@@ -17,7 +18,7 @@ use word_units::{OutOfBounds, Steps, Text};
 /// word has to be read at all.
 pub(crate) fn has_crumbs<T: Text>(t: &T) -> bool
     ensures some { result ≡ true → (T.knows_crumbs t.now ≡ true) × (1 ≤ T.STRIDE) × (T.marked_ascii t.now ≡ false) }
-    ensures storage { result ≡ true → T.storage t.now ≡ Utf8 }
+    ensures storage { result ≡ true → (T.part t.now).storage ≡ Utf8 }
     ensures none { result ≡ false → T.knows_crumbs t.now ≡ true → 1 ≤ T.STRIDE → T.marked_ascii t.now ≡ true }
 {
     t.crumbs_known() && t.stride() > 0 && !t.ascii()
@@ -38,16 +39,16 @@ pub(crate) fn index_from_crumb<T: Text, L: Ledger>(
 ) -> Result<Index, OutOfBounds>
     requires known { T.knows_crumbs t.old ≡ true }
     requires some { 1 ≤ T.STRIDE }
-    ensures index { IfOk result (λ r. r ≡ element_index (Units Utf16) (T.storage t.old) (T.whole t.old) (T.first t.old) offset) }
-    ensures inside { IfOk result (λ r. offset ≤ element_count (Units Utf16) (T.whole t.old) (T.first t.old) (T.end t.old)) }
-    ensures refused { IfErr result (λ out. element_count (Units Utf16) (T.whole t.old) (T.first t.old) (T.end t.old) < offset) }
+    ensures index { IfOk result (λ r. r ≡ element_index (Units Utf16) (T.part t.old) offset) }
+    ensures inside { IfOk result (λ r. offset ≤ element_count (Units Utf16) (T.part t.old)) }
+    ensures refused { IfErr result (λ out. element_count (Units Utf16) (T.part t.old) < offset) }
     ensures carries { IfErr result (λ out. out ≡ record {
       position = offset;
       low = 0;
-      high = element_count (Units Utf16) (T.whole t.old) (T.first t.old) (T.end t.old);
+      high = element_count (Units Utf16) (T.part t.old);
     }) }
     ensures kept { t.new ≡ t.old }
-    ensures cost { IfOk result (λ r. steps.new ≡ steps.old + words_to_unit (T.whole t.old) T.STRIDE offset) }
+    ensures cost { IfOk result (λ r. steps.new ≡ steps.old + words_to_unit (T.part t.old).whole T.STRIDE offset) }
     ensures few { steps.new ≤ steps.old + T.STRIDE + 2 }
     ensures short { IfErr result (λ out. steps.new ≡ steps.old + 1) }
 {
@@ -67,14 +68,14 @@ pub(crate) fn offset_from_crumb<T: Text, L: Ledger>(
     requires known { T.knows_crumbs t.old ≡ true }
     requires some { 1 ≤ T.STRIDE }
     requires own { reads_other Utf8 i ≡ false }
-    ensures offset { IfOk result (λ offset. element_offset (Units Utf16) (T.storage t.old) (T.whole t.old) (T.first t.old) (T.end t.old) i ≡ Some offset) }
-    ensures refused { IfErr result (IsOutOfRange (Units Utf16) (T.storage t.old) (T.whole t.old) (T.first t.old) (T.end t.old) i) }
+    ensures offset { IfOk result (λ offset. element_offset (Units Utf16) (T.part t.old) i ≡ Some offset) }
+    ensures refused { IfErr result (IsOutOfRange (T.part t.old) i) }
     ensures kept { t.new ≡ t.old }
-    ensures cost { (m crumb digits : ℕ) → IsLastCrumb (T.whole t.old) T.STRIDE i m crumb → size16 (T.whole t.old) / T.STRIDE < 2 ^ digits
-        → steps.new ≤ steps.old + words_to_byte (T.whole t.old) m (position_of i) + 2 + digits }
-    ensures counted { IfOk result (λ offset. (m crumb digits : ℕ) → IsLastCrumb (T.whole t.old) T.STRIDE i m crumb → 2 ^ digits ≤ size16 (T.whole t.old) / T.STRIDE + 1
-        → steps.old + words_to_byte (T.whole t.old) m (position_of i) + 2 + digits ≤ steps.new) }
-    ensures few { (digits : ℕ) → size16 (T.whole t.old) / T.STRIDE < 2 ^ digits → steps.new ≤ steps.old + T.STRIDE + 2 + digits }
+    ensures cost { (m crumb digits : ℕ) → IsLastCrumb (T.part t.old).whole T.STRIDE i m crumb → size16 (T.part t.old).whole / T.STRIDE < 2 ^ digits
+        → steps.new ≤ steps.old + words_to_byte (T.part t.old).whole m (position_of i) + 2 + digits }
+    ensures counted { IfOk result (λ offset. (m crumb digits : ℕ) → IsLastCrumb (T.part t.old).whole T.STRIDE i m crumb → 2 ^ digits ≤ size16 (T.part t.old).whole / T.STRIDE + 1
+        → steps.old + words_to_byte (T.part t.old).whole m (position_of i) + 2 + digits ≤ steps.new) }
+    ensures few { (digits : ℕ) → size16 (T.part t.old).whole / T.STRIDE < 2 ^ digits → steps.new ≤ steps.old + T.STRIDE + 2 + digits }
 {
     let _known = t.crumbs_known();
     let position = i.position();

@@ -1,52 +1,55 @@
 //! A text as code units of UTF-16 (The Unicode Standard, section 3.9, D91).
 ghost use Rattle.std.specs.Char.Escape.{encode_utf16};
-ghost use Rattle.index_words.specs.Crumbs.{size16};
+ghost use Rattle.index_words.specs.Crumbs.{size16, crumbs};
 ghost use Rattle.index_words.specs.Fields.{position_of};
 ghost use Rattle.crumbs.specs.Searching.{IsLastCrumb, words_to_unit, words_to_byte};
 ghost use Rattle.text_spec.specs.Offsets.{start, len_utf16};
-ghost use Rattle.text_spec.specs.Views.{width_in, part};
+ghost use Rattle.text_spec.specs.Views.{part};
 ghost use Rattle.unit_views.specs.Spots.{IsSpot, spot_offset};
 ghost use Rattle.std.specs.Prelude.{◌-◌, slice_index, ◌≡◌, ◌*◌, ◌+◌, ◌<◌, ◌≤◌, true, false, Some, IfOk, IfErr, length, ℕ, ◌/◌, ◌^◌};
 ghost use Rattle.std.specs.Int.RustNames.{unsigned_abs};
 ghost use Rattle.rounding.specs.Resolving.{reads_other};
-ghost use Rattle.unit_views.specs.declared.view.View.TheVariants.{Units};
+ghost use Rattle.unit_views.specs.declared.kind.ElementKind.TheVariants.{Units};
 ghost use Rattle.text_spec.specs.declared.encoding.Encoding.TheVariants.{Utf8, Utf16};
-ghost use Rattle.unit_views.specs.Elements.{elements, element_count, element_offset, IsOutOfRange, element_index, IsElement, IsAfter, IsBefore, IsMoved, IsDistance, IsStopped, IsMoveOut, IsEitherOut};
+ghost use Rattle.word_units.specs.Parts.{high_of, scalars_in, text_in};
+ghost use Rattle.rounding.specs.Elements.{IsElement, IsAfter, IsBefore, IsMoved, IsDistance, IsStopped, IsMoveOut};
+ghost use Rattle.rounding.specs.Refusals.{IsOutOfRange, IsEitherOut};
+ghost use Rattle.unit_views.specs.Elements.{elements, element_count, element_offset, element_index, elements_of};
 
 use crate::from_crumbs::{has_crumbs, index_from_crumb, is_offset, offset_from_crumb};
 use index_words::Index;
 use rounding::bounds;
 use std::sync::ledger::Ledger;
 use text_spec::Encoding;
-use unit_views::{Spot, View, calls, leaving, spot_of};
+use unit_views::{Spot, ElementKind, calls, leaving, spot_of};
 use word_units::{OutOfBounds, Steps, Text, scalar_at, unit_at};
 
 /// The index of the first code unit, or of the end where there is none. No word is read.
 pub fn start<T: Text>(t: &T) -> Index
-    ensures { result ≡ element_index (Units Utf16) (T.storage t.now) (T.whole t.now) (T.first t.now) 0 }
+    ensures { result ≡ element_index (Units Utf16) (T.part t.now) 0 }
 {
-    calls::start(t, View::Units(Encoding::Utf16))
+    calls::start(t, ElementKind::Units(Encoding::Utf16))
 }
 
 /// The index behind the last code unit. No word is read.
 pub fn end<T: Text>(t: &T) -> Index
-    ensures { result ≡ element_index (Units Utf16) (T.storage t.now) (T.whole t.now) (T.first t.now)
-        (element_count (Units Utf16) (T.whole t.now) (T.first t.now) (T.end t.now)) }
+    ensures { result ≡ element_index (Units Utf16) (T.part t.now)
+        (element_count (Units Utf16) (T.part t.now)) }
 {
-    calls::end(t, View::Units(Encoding::Utf16))
+    calls::end(t, ElementKind::Units(Encoding::Utf16))
 }
 
 /// The number of code units.
 ///
 /// In UTF-16 storage, and where the text is marked ASCII, no word is read; else at most two a scalar, in one pass.
 pub fn count<T: Text, L: Ledger>(t: &mut T, steps: &mut Steps<L>) -> u64
-    ensures value { result ≡ element_count (Units Utf16) (T.whole t.old) (T.first t.old) (T.end t.old) }
+    ensures value { result ≡ element_count (Units Utf16) (T.part t.old) }
     ensures kept { t.new ≡ t.old }
-    ensures cost { steps.new ≤ steps.old + 2 * (T.end t.old - T.first t.old) }
-    ensures own { T.storage t.old ≡ Utf16 → steps.new ≡ steps.old }
+    ensures cost { steps.new ≤ steps.old + 2 * scalars_in (T.part t.old) }
+    ensures own { (T.part t.old).storage ≡ Utf16 → steps.new ≡ steps.old }
     ensures unread { T.marked_ascii t.old ≡ true → steps.new ≡ steps.old }
 {
-    calls::count(t, View::Units(Encoding::Utf16), steps)
+    calls::count(t, ElementKind::Units(Encoding::Utf16), steps)
 }
 
 /// The code unit that an index is rounded down to.
@@ -58,30 +61,30 @@ pub fn element<T: Text, L: Ledger>(
     i: Index,
     steps: &mut Steps<L>,
 ) -> Result<u16, OutOfBounds>
-    ensures element { IfOk result (IsElement (Units Utf16) (T.storage t.old) (T.whole t.old) (T.first t.old) (T.end t.old) i) }
-    ensures refused { IfErr result (IsStopped (Units Utf16) (T.storage t.old) (T.whole t.old) (T.first t.old) (T.end t.old) i
-        (element_count (Units Utf16) (T.whole t.old) (T.first t.old) (T.end t.old))) }
+    ensures element { IfOk result (IsElement (elements_of (Units Utf16) (T.part t.old)) i) }
+    ensures refused { IfErr result (IsStopped (elements_of (Units Utf16) (T.part t.old)) i
+        (element_count (Units Utf16) (T.part t.old))) }
     ensures kept { t.new ≡ t.old }
-    ensures cost { steps.new ≤ steps.old + 2 * length (T.whole t.old) + 6 }
-    ensures near { reads_other (T.storage t.old) i ≡ false → steps.new ≤ steps.old + 6 }
+    ensures cost { steps.new ≤ steps.old + 2 * length (T.part t.old).whole + 6 }
+    ensures near { reads_other (T.part t.old).storage i ≡ false → steps.new ≤ steps.old + 6 }
 {
     let (_low, high) = bounds(t);
-    let spot = match spot_of(t, View::Units(Encoding::Utf16), i, steps) {
+    let spot = match spot_of(t, ElementKind::Units(Encoding::Utf16), i, steps) {
         Ok(spot) => spot,
         Err(out) => return Err(out),
     };
     if spot.at == high {
-        return Err(leaving(t, View::Units(Encoding::Utf16), spot));
+        return Err(leaving(t, ElementKind::Units(Encoding::Utf16), spot));
     }
     Ok(unit_here(t, spot, steps))
 }
 
 /// The code unit at an element that isn't the end.
 fn unit_here<T: Text, L: Ledger>(t: &mut T, spot: Spot, steps: &mut Steps<L>) -> u16
-    requires spot { IsSpot (Units Utf16) (T.storage t.old) (T.whole t.old) (T.first t.old) (T.end t.old) spot.at spot.past }
-    requires inside { spot.at < start (width_in (T.storage t.old)) (T.whole t.old) (T.end t.old) }
-    ensures value { result ≡ slice_index (elements (Units Utf16) (part (T.whole t.old) (T.first t.old) (T.end t.old)))
-        (spot_offset (Units Utf16) (T.storage t.old) (T.whole t.old) (T.first t.old) spot.at spot.past) }
+    requires spot { IsSpot (Units Utf16) (T.part t.old) spot.at spot.past }
+    requires inside { spot.at < high_of (T.part t.old) }
+    ensures value { result ≡ slice_index (elements (Units Utf16) (text_in (T.part t.old)))
+        (spot_offset (Units Utf16) (T.part t.old) spot.at spot.past) }
     ensures kept { t.new ≡ t.old }
     ensures cost { steps.new ≤ steps.old + 2 }
 {
@@ -113,15 +116,15 @@ pub fn after<T: Text, L: Ledger>(
     i: Index,
     steps: &mut Steps<L>,
 ) -> Result<Index, OutOfBounds>
-    ensures next { IfOk result (IsAfter (Units Utf16) (T.storage t.old) (T.whole t.old) (T.first t.old) (T.end t.old) i) }
-    ensures refused { IfErr result (IsStopped (Units Utf16) (T.storage t.old) (T.whole t.old) (T.first t.old) (T.end t.old) i
-        (element_count (Units Utf16) (T.whole t.old) (T.first t.old) (T.end t.old))) }
+    ensures next { IfOk result (IsAfter (elements_of (Units Utf16) (T.part t.old)) i) }
+    ensures refused { IfErr result (IsStopped (elements_of (Units Utf16) (T.part t.old)) i
+        (element_count (Units Utf16) (T.part t.old))) }
     ensures kept { t.new ≡ t.old }
-    ensures cost { steps.new ≤ steps.old + 2 * length (T.whole t.old) + 14 }
-    ensures near { reads_other (T.storage t.old) i ≡ false → steps.new ≤ steps.old + 14 }
+    ensures cost { steps.new ≤ steps.old + 2 * length (T.part t.old).whole + 14 }
+    ensures near { reads_other (T.part t.old).storage i ≡ false → steps.new ≤ steps.old + 14 }
     ensures unread { T.marked_ascii t.old ≡ true → steps.new ≡ steps.old }
 {
-    calls::after(t, View::Units(Encoding::Utf16), i, steps)
+    calls::after(t, ElementKind::Units(Encoding::Utf16), i, steps)
 }
 
 /// The index of the code unit before the one that an index is rounded down to.
@@ -133,14 +136,14 @@ pub fn before<T: Text, L: Ledger>(
     i: Index,
     steps: &mut Steps<L>,
 ) -> Result<Index, OutOfBounds>
-    ensures previous { IfOk result (IsBefore (Units Utf16) (T.storage t.old) (T.whole t.old) (T.first t.old) (T.end t.old) i) }
-    ensures refused { IfErr result (IsStopped (Units Utf16) (T.storage t.old) (T.whole t.old) (T.first t.old) (T.end t.old) i 0) }
+    ensures previous { IfOk result (IsBefore (elements_of (Units Utf16) (T.part t.old)) i) }
+    ensures refused { IfErr result (IsStopped (elements_of (Units Utf16) (T.part t.old)) i 0) }
     ensures kept { t.new ≡ t.old }
-    ensures cost { steps.new ≤ steps.old + 2 * length (T.whole t.old) + 10 }
-    ensures near { reads_other (T.storage t.old) i ≡ false → steps.new ≤ steps.old + 10 }
+    ensures cost { steps.new ≤ steps.old + 2 * length (T.part t.old).whole + 10 }
+    ensures near { reads_other (T.part t.old).storage i ≡ false → steps.new ≤ steps.old + 10 }
     ensures unread { T.marked_ascii t.old ≡ true → steps.new ≡ steps.old }
 {
-    calls::before(t, View::Units(Encoding::Utf16), i, steps)
+    calls::before(t, ElementKind::Units(Encoding::Utf16), i, steps)
 }
 
 /// The index of the code unit `n` code units behind the one that an index is rounded down to, or before it where `n` is negative.
@@ -155,15 +158,15 @@ pub fn offset_by<T: Text, L: Ledger>(
     n: i64,
     steps: &mut Steps<L>,
 ) -> Result<Index, OutOfBounds>
-    ensures there { IfOk result (IsMoved (Units Utf16) (T.storage t.old) (T.whole t.old) (T.first t.old) (T.end t.old) i n) }
-    ensures refused { IfErr result (IsMoveOut (Units Utf16) (T.storage t.old) (T.whole t.old) (T.first t.old) (T.end t.old) i n) }
+    ensures there { IfOk result (IsMoved (elements_of (Units Utf16) (T.part t.old)) i n) }
+    ensures refused { IfErr result (IsMoveOut (elements_of (Units Utf16) (T.part t.old)) i n) }
     ensures kept { t.new ≡ t.old }
-    ensures cost { steps.new ≤ steps.old + 2 * length (T.whole t.old) + 4 * (T.end t.old - T.first t.old) + 6 }
-    ensures pass { reads_other (T.storage t.old) i ≡ false → steps.new ≤ steps.old + 4 * (T.end t.old - T.first t.old) + 6 }
-    ensures near { reads_other (T.storage t.old) i ≡ false → steps.new ≤ steps.old + 4 * unsigned_abs n + 12 }
+    ensures cost { steps.new ≤ steps.old + 2 * length (T.part t.old).whole + 4 * scalars_in (T.part t.old) + 6 }
+    ensures pass { reads_other (T.part t.old).storage i ≡ false → steps.new ≤ steps.old + 4 * scalars_in (T.part t.old) + 6 }
+    ensures near { reads_other (T.part t.old).storage i ≡ false → steps.new ≤ steps.old + 4 * unsigned_abs n + 12 }
     ensures unread { T.marked_ascii t.old ≡ true → steps.new ≡ steps.old }
 {
-    calls::offset_by(t, View::Units(Encoding::Utf16), i, n, steps)
+    calls::offset_by(t, ElementKind::Units(Encoding::Utf16), i, n, steps)
 }
 
 /// How many code units lie from the one that an index is rounded down to, to another: below 0 where that is before it.
@@ -176,15 +179,15 @@ pub fn distance<T: Text, L: Ledger>(
     to: Index,
     steps: &mut Steps<L>,
 ) -> Result<i64, OutOfBounds>
-    ensures units { IfOk result (IsDistance (Units Utf16) (T.storage t.old) (T.whole t.old) (T.first t.old) (T.end t.old) from to) }
-    ensures refused { IfErr result (IsEitherOut (Units Utf16) (T.storage t.old) (T.whole t.old) (T.first t.old) (T.end t.old) from to) }
+    ensures units { IfOk result (IsDistance (elements_of (Units Utf16) (T.part t.old)) from to) }
+    ensures refused { IfErr result (IsEitherOut (T.part t.old) from to) }
     ensures kept { t.new ≡ t.old }
-    ensures cost { steps.new ≤ steps.old + 4 * length (T.whole t.old) + 2 * (T.end t.old - T.first t.old) + 8 }
-    ensures near { reads_other (T.storage t.old) from ≡ false → reads_other (T.storage t.old) to ≡ false
-        → steps.new ≤ steps.old + 2 * (T.end t.old - T.first t.old) + 8 }
+    ensures cost { steps.new ≤ steps.old + 4 * length (T.part t.old).whole + 2 * scalars_in (T.part t.old) + 8 }
+    ensures near { reads_other (T.part t.old).storage from ≡ false → reads_other (T.part t.old).storage to ≡ false
+        → steps.new ≤ steps.old + 2 * scalars_in (T.part t.old) + 8 }
     ensures unread { T.marked_ascii t.old ≡ true → steps.new ≡ steps.old }
 {
-    calls::distance(t, View::Units(Encoding::Utf16), from, to, steps)
+    calls::distance(t, ElementKind::Units(Encoding::Utf16), from, to, steps)
 }
 
 /// The index of the code unit with an offset, which may be the number of code units.
@@ -197,28 +200,28 @@ pub fn index_of_offset<T: Text, L: Ledger>(
     offset: u64,
     steps: &mut Steps<L>,
 ) -> Result<Index, OutOfBounds>
-    ensures index { IfOk result (λ r. r ≡ element_index (Units Utf16) (T.storage t.old) (T.whole t.old) (T.first t.old) offset) }
-    ensures inside { IfOk result (λ r. offset ≤ element_count (Units Utf16) (T.whole t.old) (T.first t.old) (T.end t.old)) }
-    ensures refused { IfErr result (λ out. element_count (Units Utf16) (T.whole t.old) (T.first t.old) (T.end t.old) < offset) }
+    ensures index { IfOk result (λ r. r ≡ element_index (Units Utf16) (T.part t.old) offset) }
+    ensures inside { IfOk result (λ r. offset ≤ element_count (Units Utf16) (T.part t.old)) }
+    ensures refused { IfErr result (λ out. element_count (Units Utf16) (T.part t.old) < offset) }
     ensures carries { IfErr result (λ out. out ≡ record {
       position = offset;
       low = 0;
-      high = element_count (Units Utf16) (T.whole t.old) (T.first t.old) (T.end t.old);
+      high = element_count (Units Utf16) (T.part t.old);
     }) }
     ensures kept { t.new ≡ t.old }
     ensures crumbs { T.knows_crumbs t.old ≡ true → 1 ≤ T.STRIDE → steps.new ≤ steps.old + T.STRIDE + 2 }
     ensures counted { T.knows_crumbs t.old ≡ true → 1 ≤ T.STRIDE → T.marked_ascii t.old ≡ false
-        → IfOk result (λ r. steps.new ≡ steps.old + words_to_unit (T.whole t.old) T.STRIDE offset) }
+        → IfOk result (λ r. steps.new ≡ steps.old + words_to_unit (T.part t.old).whole T.STRIDE offset) }
     ensures short { T.knows_crumbs t.old ≡ true → 1 ≤ T.STRIDE → T.marked_ascii t.old ≡ false → IfErr result (λ out. steps.new ≡ steps.old + 1) }
-    ensures pass { T.storage t.old ≡ Utf8 → T.knows_crumbs t.old ≡ false → steps.new ≤ steps.old + 2 * (T.end t.old - T.first t.old) }
-    ensures near { T.storage t.old ≡ Utf8 → T.knows_crumbs t.old ≡ false → steps.new ≤ steps.old + 2 * offset }
-    ensures own { T.storage t.old ≡ Utf16 → steps.new ≤ steps.old + 2 }
+    ensures pass { (T.part t.old).storage ≡ Utf8 → T.knows_crumbs t.old ≡ false → steps.new ≤ steps.old + 2 * scalars_in (T.part t.old) }
+    ensures near { (T.part t.old).storage ≡ Utf8 → T.knows_crumbs t.old ≡ false → steps.new ≤ steps.old + 2 * offset }
+    ensures own { (T.part t.old).storage ≡ Utf16 → steps.new ≤ steps.old + 2 }
     ensures unread { T.marked_ascii t.old ≡ true → steps.new ≡ steps.old }
 {
     if has_crumbs(t) {
         return index_from_crumb(t, offset, steps);
     }
-    calls::index_of_offset(t, View::Units(Encoding::Utf16), offset, steps)
+    calls::index_of_offset(t, ElementKind::Units(Encoding::Utf16), offset, steps)
 }
 
 /// The offset of the code unit that an index is rounded down to.
@@ -233,25 +236,25 @@ pub fn offset_of_index<T: Text, L: Ledger>(
     i: Index,
     steps: &mut Steps<L>,
 ) -> Result<u64, OutOfBounds>
-    ensures offset { IfOk result (λ offset. element_offset (Units Utf16) (T.storage t.old) (T.whole t.old) (T.first t.old) (T.end t.old) i ≡ Some offset) }
-    ensures refused { IfErr result (IsOutOfRange (Units Utf16) (T.storage t.old) (T.whole t.old) (T.first t.old) (T.end t.old) i) }
+    ensures offset { IfOk result (λ offset. element_offset (Units Utf16) (T.part t.old) i ≡ Some offset) }
+    ensures refused { IfErr result (IsOutOfRange (T.part t.old) i) }
     ensures kept { t.new ≡ t.old }
-    ensures crumbs { T.knows_crumbs t.old ≡ true → 1 ≤ T.STRIDE → reads_other (T.storage t.old) i ≡ false → (digits : ℕ)
-        → size16 (T.whole t.old) / T.STRIDE < 2 ^ digits → steps.new ≤ steps.old + T.STRIDE + 2 + digits }
-    ensures walked { T.knows_crumbs t.old ≡ true → 1 ≤ T.STRIDE → reads_other (T.storage t.old) i ≡ false → (m crumb digits : ℕ)
-        → IsLastCrumb (T.whole t.old) T.STRIDE i m crumb → size16 (T.whole t.old) / T.STRIDE < 2 ^ digits
-        → steps.new ≤ steps.old + words_to_byte (T.whole t.old) m (position_of i) + 2 + digits }
-    ensures counted { T.knows_crumbs t.old ≡ true → 1 ≤ T.STRIDE → T.marked_ascii t.old ≡ false → reads_other (T.storage t.old) i ≡ false
-        → IfOk result (λ offset. (m crumb digits : ℕ) → IsLastCrumb (T.whole t.old) T.STRIDE i m crumb → 2 ^ digits ≤ size16 (T.whole t.old) / T.STRIDE + 1
-        → steps.old + words_to_byte (T.whole t.old) m (position_of i) + 2 + digits ≤ steps.new) }
-    ensures cost { T.knows_crumbs t.old ≡ false → steps.new ≤ steps.old + 2 * length (T.whole t.old) + 2 * (T.end t.old - T.first t.old) + 4 }
-    ensures across { reads_other (T.storage t.old) i ≡ true → steps.new ≤ steps.old + 2 * length (T.whole t.old) + 2 * (T.end t.old - T.first t.old) + 4 }
-    ensures near { T.knows_crumbs t.old ≡ false → reads_other (T.storage t.old) i ≡ false → steps.new ≤ steps.old + 2 * (T.end t.old - T.first t.old) + 4 }
+    ensures crumbs { T.knows_crumbs t.old ≡ true → 1 ≤ T.STRIDE → reads_other (T.part t.old).storage i ≡ false → (digits : ℕ)
+        → size16 (T.part t.old).whole / T.STRIDE < 2 ^ digits → steps.new ≤ steps.old + T.STRIDE + 2 + digits }
+    ensures walked { T.knows_crumbs t.old ≡ true → 1 ≤ T.STRIDE → reads_other (T.part t.old).storage i ≡ false → (m crumb digits : ℕ)
+        → IsLastCrumb (T.part t.old).whole T.STRIDE i m crumb → size16 (T.part t.old).whole / T.STRIDE < 2 ^ digits
+        → steps.new ≤ steps.old + words_to_byte (T.part t.old).whole m (position_of i) + 2 + digits }
+    ensures counted { T.knows_crumbs t.old ≡ true → 1 ≤ T.STRIDE → T.marked_ascii t.old ≡ false → reads_other (T.part t.old).storage i ≡ false
+        → IfOk result (λ offset. (m crumb digits : ℕ) → IsLastCrumb (T.part t.old).whole T.STRIDE i m crumb → 2 ^ digits ≤ size16 (T.part t.old).whole / T.STRIDE + 1
+        → steps.old + words_to_byte (T.part t.old).whole m (position_of i) + 2 + digits ≤ steps.new) }
+    ensures cost { T.knows_crumbs t.old ≡ false → steps.new ≤ steps.old + 2 * length (T.part t.old).whole + 2 * scalars_in (T.part t.old) + 4 }
+    ensures across { reads_other (T.part t.old).storage i ≡ true → steps.new ≤ steps.old + 2 * length (T.part t.old).whole + 2 * scalars_in (T.part t.old) + 4 }
+    ensures near { T.knows_crumbs t.old ≡ false → reads_other (T.part t.old).storage i ≡ false → steps.new ≤ steps.old + 2 * scalars_in (T.part t.old) + 4 }
     ensures unread { T.marked_ascii t.old ≡ true → steps.new ≡ steps.old }
 {
     let _known = t.crumbs_known();
     if has_crumbs(t) && !is_offset(i) {
         return offset_from_crumb(t, i, steps);
     }
-    calls::offset_of_index(t, View::Units(Encoding::Utf16), i, steps)
+    calls::offset_of_index(t, ElementKind::Units(Encoding::Utf16), i, steps)
 }

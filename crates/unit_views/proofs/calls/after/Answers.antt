@@ -1,6 +1,7 @@
 use Rattle.std.proofs.Common.{◌≡◌, ap, subst, ◌∙◌, ℕ, ◌+◌, ◌<◌, ◌≤◌, inr, Some, arith}
 use Rattle.unit_views.specs.declared.kind.ElementKind.{ElementKind}
-use Rattle.unit_views.specs.Elements.{element_count, element_index, leaves_text}
+use Rattle.unit_views.specs.Elements.{elements_of, element_count, element_index}
+use Rattle.rounding.specs.Elements.{leaves_text}
 use Rattle.unit_views.specs.Spots.{spot_offset}
 use Rattle.unit_views.proofs.calls.after.Given.{Over}
 use Rattle.unit_views.proofs.calls.after.Goals as goal
@@ -31,6 +32,6 @@ returns-in-Err-ahead-clause-refused g c =
     let here = c.in-Ok.spot in
     let left = subst (λ t. (offset_in g t view here.at here.past + c.in-Err-ahead.field-0 ≡ element_count view (g.T.Text.part t)) × (c.in-Err-ahead.field-0 < 1)) c.spot_of.ensures.kept c.in-Err-ahead.ensures.left in
     let last : offset_in g t view here.at here.past ≡ element_count view (g.T.Text.part t) = omega (arith, left.0, left.1) in
-    let leaves = subst (λ t. c.leaving.result ≡ leaves_text view (g.T.Text.part t).storage (g.T.Text.part t).whole (g.T.Text.part t).first (g.T.Text.part t).end (offset_in g t view here.at here.past))
+    let leaves = subst (λ t. c.leaving.result ≡ leaves_text (elements_of view (g.T.Text.part t)) (offset_in g t view here.at here.past))
     (c.ahead.ensures.kept ∙ c.spot_of.ensures.kept) c.leaving.ensures in
-    inr (c.in-Ok.ensures.offset ∙ ap Some last, leaves ∙ ap (leaves_text view (g.T.Text.part t).storage (g.T.Text.part t).whole (g.T.Text.part t).first (g.T.Text.part t).end) last)
+    inr (c.in-Ok.ensures.offset ∙ ap Some last, leaves ∙ ap (leaves_text (elements_of view (g.T.Text.part t))) last)

@@ -1,6 +1,7 @@
 use Rattle.std.proofs.Common.{◌≡◌, refl, ap, subst, ◌∙◌, ℕ, ◌+◌, ◌-◌, ◌<◌, inr, Some, arith}
 use Rattle.unit_views.specs.declared.kind.ElementKind.{ElementKind}
-use Rattle.unit_views.specs.Elements.{element_index, leaves_text}
+use Rattle.unit_views.specs.Elements.{elements_of, element_index}
+use Rattle.rounding.specs.Elements.{leaves_text}
 use Rattle.unit_views.specs.Spots.{spot_offset}
 use Rattle.unit_views.proofs.calls.before.Given.{Over}
 use Rattle.unit_views.proofs.calls.before.Goals as goal
@@ -30,6 +31,6 @@ returns-in-None-clause-refused g c =
     let here = c.in-Ok.spot in
     let few : offset_in g t view here.at here.past < 1 = subst (λ t. offset_in g t view here.at here.past < 1) c.spot_of.ensures.kept (c.in-None.ensures.cause.0 refl) in
     let zero : offset_in g t view here.at here.past ≡ 0 = omega (arith, few) in
-    let leaves = subst (λ t. c.leaving.result ≡ leaves_text view (g.T.Text.part t).storage (g.T.Text.part t).whole (g.T.Text.part t).first (g.T.Text.part t).end (offset_in g t view here.at here.past))
+    let leaves = subst (λ t. c.leaving.result ≡ leaves_text (elements_of view (g.T.Text.part t)) (offset_in g t view here.at here.past))
     (c.behind.ensures.kept ∙ c.spot_of.ensures.kept) c.leaving.ensures in
-    inr (c.in-Ok.ensures.offset ∙ ap Some zero, leaves ∙ ap (leaves_text view (g.T.Text.part t).storage (g.T.Text.part t).whole (g.T.Text.part t).first (g.T.Text.part t).end) zero)
+    inr (c.in-Ok.ensures.offset ∙ ap Some zero, leaves ∙ ap (leaves_text (elements_of view (g.T.Text.part t))) zero)

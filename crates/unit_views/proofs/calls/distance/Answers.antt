@@ -1,6 +1,8 @@
-use Rattle.std.proofs.Common.{◌≡◌, subst, ◌∙◌, ℕ, Some, pos, ◌+ℤ◌, arith, to_z-of_z}
+use Rattle.std.proofs.Common.{◌≡◌, inr, subst, ◌∙◌, ℕ, Some, pos, ◌+ℤ◌, arith, to_z-of_z}
 use Rattle.std.proofs.lemmas.Int.{ints}
 use Rattle.unit_views.specs.declared.kind.ElementKind.{ElementKind}
+use Rattle.rounding.specs.Refusals.{IsOutOfRange}
+use Rattle.rounding.proofs.Places.{mapped_some}
 use Rattle.unit_views.specs.Elements.{element_offset}
 use Rattle.unit_views.specs.Spots.{spot_offset}
 use Rattle.unit_views.proofs.calls.distance.Given.{Over}
@@ -24,3 +26,8 @@ returns-clause-elements g c =
           c.spot_of.ensures.kept c.in-Ok-spot_of.ensures.offset,
       grind (arith, ints, to_z-of_z),
     )
+
+pub returns-in-Err-spot_of-clause-refused : goal.returns-in-Err-spot_of-clause-refused
+returns-in-Err-spot_of-clause-refused g c =
+    let first = mapped_some _ _ _ c.in-Ok.ensures.offset in
+    inr (first.0, first.1, subst (λ t. IsOutOfRange (g.T.Text.part t) c.args.to c.in-Err-spot_of.out) c.spot_of.ensures.kept c.in-Err-spot_of.ensures.refused)

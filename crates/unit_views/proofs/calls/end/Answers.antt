@@ -1,5 +1,6 @@
 use Rattle.std.proofs.Common.{ap, ◌∙◌, ◌==◌, arith}
 use Rattle.text_spec.specs.Views.{width_in}
+use Rattle.word_units.specs.Parts.{all_of}
 use Rattle.rounding.specs.Resolving.{index_at}
 use Rattle.rounding.proofs.Places.{index_at_told, boundary_told}
 use Rattle.unit_views.proofs.Between.{down-mono}

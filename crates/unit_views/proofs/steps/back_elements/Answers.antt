@@ -24,6 +24,6 @@ returns-in-Scalars-clause-backs g c =
 pub returns-in-Units-clause-backs : goal.returns-in-Units-clause-backs
 returns-in-Units-clause-backs g c =
     let p = back (g.T.Text.part c.args.t.now).storage (g.T.Text.part c.args.t.now).whole c.args.at c.args.to c.boundary_at_or_before-previous.result c.requires.begun c.requires.order c.requires.inside c.boundary_at_or_before-previous.ensures.value in
-    backing_units c.args.view _ _ _ c.args.at c.args.to _ _ _ c.in-Units.is c.requires.across c.requires.begun c.requires.ends c.requires.order p
+    backing_units c.args.view _ _ _ _ _ c.args.at c.args.to _ _ _ c.in-Units.is c.requires.across c.requires.begun c.requires.ends c.requires.order p
     (subst (λ t. Passes (g.T.Text.part t) c.boundary_at_or_before-previous.result c.pass_scalar-next.result.0 c.pass_scalar-next.result.1)
     c.boundary_at_or_before-previous.ensures.kept c.pass_scalar-next.ensures.passes)
