@@ -16,6 +16,7 @@ use Rattle.text_spec.proofs.Walk.{start-strict}
 use Rattle.text_spec.proofs.Downward.{down-length}
 use Rattle.text_spec.proofs.Widths.{width_some}
 use Rattle.word_units.specs.Filling.{IsPiece}
+use Rattle.word_units.specs.Parts.{part_of}
 use Rattle.char_view.specs.Places.{IsText, IsPlace, own_bytes, own_number}
 use Rattle.char_view.proofs.Parts.{start-part, place_of, cut_at, scalars-take, scalars-drop}
 
@@ -56,9 +57,9 @@ utf8-part t j k order inside piece is =
 
 -- a piece between two places of the text
 pub record IsCut (e : Encoding) (b : List ℕ) (first end from to offset end_offset : ℕ) (piece : List ℕ) : Type 0 where
-  pub place : IsPlace e b first end offset from
-  pub end_place : IsPlace e b first end end_offset to
-  pub chunk : IsChunkOf (own_bytes b first end) piece offset
+  pub place : IsPlace (part_of e b first end) offset from
+  pub end_place : IsPlace (part_of e b first end) end_offset to
+  pub chunk : IsChunkOf (own_bytes (part_of e b first end)) piece offset
   pub utf8 : IsUtf8 piece
   pub sum : offset + length piece ≡ end_offset
 
@@ -66,14 +67,14 @@ pub record IsCut (e : Encoding) (b : List ℕ) (first end from to offset end_off
 in_order : (e : Encoding) (b : List ℕ) (from to m n : ℕ) → from ≤ to → start (width_in e) b m ≡ from → start (width_in e) b n ≡ to → n < m → m ≤ length b → ⊥
 in_order e b from to m n order m_is n_is h inside = omega (arith, order, m_is, n_is, start-strict (width_in e) (width_some e) b n m h inside)
 
-pub cut_of : (e : Encoding) (b : List ℕ) (first end from to : ℕ) (piece : List ℕ) → IsText e b first end → IsPiece e b from to piece
+pub cut_of : (e : Encoding) (b : List ℕ) (first end from to : ℕ) (piece : List ℕ) → IsText (part_of e b first end) → IsPiece (part_of e b first end) from to piece
     → start (width_in e) b first ≤ from → to ≤ start (width_in e) b end
-    → IsCut e b first end from to (start len_utf8 (part b first end) (own_number e b first from)) (start len_utf8 (part b first end) (own_number e b first to)) piece
+    → IsCut e b first end from to (start len_utf8 (part b first end) (own_number (part_of e b first end) from)) (start len_utf8 (part b first end) (own_number (part_of e b first end) to)) piece
 cut_of e b first end from to piece text p low high =
     let w = width_in e in
     let t = part b first end in
-    let j = own_number e b first from in
-    let k = own_number e b first to in
+    let j = own_number (part_of e b first end) from in
+    let k = own_number (part_of e b first end) to in
     let lowest : first ≤ down w b from = ⊎_elim (λ (l : down w b from < first). absurd (in_order e b _ _ first (down w b from) low refl p.boundary l (omega (arith, text.order, text.inside)))) (λ l. l) (cases_lt (down w b from) first) in
     let between : down w b from ≤ down w b to = ⊎_elim (λ (l : down w b to < down w b from). absurd (in_order e b from to (down w b from) (down w b to) p.order p.boundary p.end_boundary l (down-length w b from))) (λ l. l) (cases_lt (down w b to) (down w b from)) in
     let highest : down w b to ≤ end = ⊎_elim (λ (l : end < down w b to). absurd (in_order e b to _ (down w b to) end high p.end_boundary refl l (down-length w b to))) (λ l. l) (cases_lt end (down w b to)) in
@@ -90,7 +91,7 @@ cut_of e b first end from to piece text p low high =
       end_place = place_of e b first end k _ to text (omega (arith, to_is, highest)) refl (sym p.end_boundary ∙ ap (start w b) (sym to_is));
       chunk = record {
         start_boundary = cut_at t text.scalars j (omega (arith, from_is, to_is, between, within));
-        end_boundary = subst (IsCharBoundary (own_bytes b first end)) (sym sum) (cut_at t text.scalars k within);
+        end_boundary = subst (IsCharBoundary (own_bytes (part_of e b first end))) (sym sum) (cut_at t text.scalars k within);
         bytes = utf8-part t j k (omega (arith, from_is, to_is, between)) within piece bytes;
       };
       utf8 = (part t j k, (scalars-take (drop j t) (k - j) (scalars-drop t j text.scalars), sym bytes));

@@ -1,42 +1,11 @@
 -- Indices of Characters as words, and indices rounded down to scalars.
-use Rattle.std.proofs.Common.{◌≡◌, refl, sym, ap, ◌∙◌, ℕ, ◌+◌, ◌-◌, ◌<◌, ◌≤◌, ◌^◌, ⊎_elim, true, nat_le, List, length, Some, arith}
+use Rattle.std.proofs.Common.{◌≡◌, refl, sym, ap, ◌∙◌, ℕ, ◌+◌, ◌-◌, ◌<◌, ◌≤◌, ◌^◌, ⊎_elim, true, nat_le, List, arith}
 use Rattle.std.proofs.lemmas.Bool.{cases_lt, cond-true, cond-false, le-leb, lt-leb}
-use Rattle.std.specs.Option.{option_map}
 use Rattle.text_spec.specs.declared.encoding.Encoding.{Encoding}
-use Rattle.text_spec.specs.Offsets.{start, down}
-use Rattle.text_spec.specs.Views.{width_in, part}
-use Rattle.text_spec.proofs.Downward.{down-length, start-down, down-greatest}
-use Rattle.text_spec.proofs.Walk.{start-mono, down-start}
-use Rattle.text_spec.proofs.Widths.{width_some}
+use Rattle.text_spec.specs.Offsets.{down}
 use Rattle.index_words.specs.Fields.{Fields, Fit, position_of, fields_of, plain, word_of}
-use Rattle.rounding.specs.Resolving.{IsResolved, resolved, index_place}
-use Rattle.char_view.specs.Answers.{character_fields, character_index, character_position, character_offset, kept_stride, offset_at, without_stride}
-use Rattle.char_view.specs.Characters.{character_of}
-
--- the boundary before a resolved index
-pub record IsFloored (e : Encoding) (b : List ℕ) (first end index p : ℕ) : Type 0 where
-  pub low : start (width_in e) b first ≤ p
-  pub high : p ≤ start (width_in e) b end
-  pub boundary : start (width_in e) b (down (width_in e) b p) ≡ p
-  pub number : down (width_in e) b p ≡ down (width_in e) b (position_of index)
-
-pub floored : (e : Encoding) (b : List ℕ) (first end index p : ℕ) → IsResolved e b first end index → first ≤ length b
-    → p ≡ start (width_in e) b (down (width_in e) b (position_of index)) → IsFloored e b first end index p
-floored e b first end index p is inside at =
-    let w = width_in e in
-    let k = down w b (position_of index) in
-    let number : down w b p ≡ k = ap (down w b) at ∙ down-start w (width_some e) b k (down-length w b (position_of index)) in
-    record {
-      low = omega (arith, at, start-mono w b first k (down-greatest w b (position_of index) first inside is.not_below));
-      high = omega (arith, at, start-down w b (position_of index), is.not_above);
-      boundary = ap (start w b) number ∙ sym at;
-      number = number;
-    }
-
-pub offset_known : (e : Encoding) (b : List ℕ) (first end i index p : ℕ) → resolved e b first end i ≡ Some (index_place index)
-    → down (width_in e) b p ≡ down (width_in e) b (position_of index) → character_offset e b first end i ≡ Some (offset_at e b first end p)
-offset_known e b first end i index p is number =
-    ap (option_map (λ place. offset_at e b first end (place.0))) is ∙ ap (λ k. Some (character_of (part b first end) (k - first))) (sym number)
+use Rattle.word_units.specs.Parts.{part_of}
+use Rattle.char_view.specs.Answers.{character_fields, character_index, character_position, kept_stride, without_stride}
 
 pub kept-few : (n : ℕ) → kept_stride n < 64
 kept-few n =
@@ -78,8 +47,8 @@ module _ (law : (fields : Fields) → Fit fields → fields_of (word_of fields) 
       is2 ∙ ap (λ f. word_of (record f { character_aligned = true })) b1 ∙ sym (ap (λ f. word_of (record f { stride = 0 })) whole)
 
 -- the index of Character n, by its two ends
-pub index_is : (kind e : Encoding) (b : List ℕ) (first end n from to index : ℕ) → kind ≡ e → from ≡ character_position e b first end n
-    → to ≡ character_position e b first end (n + 1) → index ≡ word_of (character_fields kind from to) → index ≡ character_index e b first end n
+pub index_is : (kind e : Encoding) (b : List ℕ) (first end n from to index : ℕ) → kind ≡ e → from ≡ character_position (part_of e b first end) n
+    → to ≡ character_position (part_of e b first end) (n + 1) → index ≡ word_of (character_fields kind from to) → index ≡ character_index (part_of e b first end) n
 index_is kind e b first end n from to index same from_is to_is is =
     is ∙ ap (λ k. word_of (character_fields k from to)) same ∙ ap (λ p. word_of (character_fields e p to)) from_is
-    ∙ ap (λ p. word_of (character_fields e (character_position e b first end n) p)) to_is
+    ∙ ap (λ p. word_of (character_fields e (character_position (part_of e b first end) n) p)) to_is

@@ -24,6 +24,7 @@ use Rattle.text_spec.proofs.Lengths.{start-utf8}
 use Rattle.text_spec.proofs.Repaired.{Stands16, read16, pair_cases}
 use Rattle.text_spec.proofs.Walk.{start-mono, start-le, start-strict, start-suc, down-start}
 use Rattle.text_spec.proofs.Widths.{width_some, len8_some}
+use Rattle.word_units.specs.Parts.{part_of}
 use Rattle.char_view.specs.Characters.{is_character_boundary}
 use Rattle.char_view.specs.Places.{IsText, IsPlace, own_bytes, own_number}
 
@@ -108,7 +109,7 @@ number-most e (c ∷ t) zero h = omega arith
 number-most e (c ∷ t) (suc k) h = omega (arith, number-most e t k (omega (arith, h)), width_some e c)
 
 pub text_of : (e : Encoding) (ws : List ℕ) (n : ℕ) (b : List ℕ) (first end : ℕ) → n ≡ size_in e b → n < 2 ^ 48 → denoted_text e ws n ≡ Some b
-    → first ≤ end → end ≤ length b → IsText e b first end
+    → first ≤ end → end ≤ length b → IsText (part_of e b first end)
 text_of e ws n b first end long small is order inside =
     let w = width_in e in
     let t = part b first end in
@@ -184,14 +185,14 @@ module _ (t : List ℕ) (ok : all_scalars t ≡ true) where
 
 -- ---- places
 -- scalar k of the text, as a place
-pub place_of : (e : Encoding) (b : List ℕ) (first end k offset position : ℕ) → IsText e b first end → first + k ≤ end
-    → offset ≡ start len_utf8 (part b first end) k → position ≡ start (width_in e) b (first + k) → IsPlace e b first end offset position
+pub place_of : (e : Encoding) (b : List ℕ) (first end k offset position : ℕ) → IsText (part_of e b first end) → first + k ≤ end
+    → offset ≡ start len_utf8 (part b first end) k → position ≡ start (width_in e) b (first + k) → IsPlace (part_of e b first end) offset position
 place_of e b first end k offset position text inside offset_is position_is =
     let w = width_in e in
     let t = part b first end in
     let number : down w b position ≡ first + k = ap (down w b) position_is ∙ down-start w (width_some e) b (first + k) (omega (arith, inside, text.inside)) in
     let own : down w b position - first ≡ k = omega (arith, number) in
-    let long : length (own_bytes b first end) ≡ start len_utf8 t (length t) = length-utf8 t in
+    let long : length (own_bytes (part_of e b first end)) ≡ start len_utf8 t (length t) = length-utf8 t in
     let whole : first + length t ≡ end = omega (arith, text.size, text.order) in
     let cut = cut_at t text.scalars k (omega (arith, inside, whole)) in
     record {
@@ -202,7 +203,7 @@ place_of e b first end k offset position text inside offset_is position_is =
       after_first = omega (arith, number);
       before_end = omega (arith, number, inside);
       offset_is = offset_is ∙ ap (start len_utf8 t) (sym own);
-      cut = subst (IsCharBoundary (own_bytes b first end)) (sym offset_is) cut;
+      cut = subst (IsCharBoundary (own_bytes (part_of e b first end))) (sym offset_is) cut;
       within = omega (arith, cut.0, offset_is);
       small = omega (arith, position_is, start-le w b (first + k), text.small);
       few = omega (arith, cut.0, offset_is, text.few);
@@ -222,10 +223,10 @@ pub record IsNumber (e : Encoding) (b : List ℕ) (first end k offset position :
   pub offset_is : offset ≡ start len_utf8 (part b first end) k
   pub position_is : position ≡ start (width_in e) b (first + k)
 
-pub number_of : (e : Encoding) (b : List ℕ) (first end offset position : ℕ) → IsPlace e b first end offset position
-    → IsNumber e b first end (own_number e b first position) offset position
+pub number_of : (e : Encoding) (b : List ℕ) (first end offset position : ℕ) → IsPlace (part_of e b first end) offset position
+    → IsNumber e b first end (own_number (part_of e b first end) position) offset position
 number_of e b first end offset position p =
-    let whole : first + own_number e b first position ≡ down (width_in e) b position = omega (arith, p.after_first) in
+    let whole : first + own_number (part_of e b first end) position ≡ down (width_in e) b position = omega (arith, p.after_first) in
     record {
       inside = omega (arith, whole, p.before_end);
       own = omega (arith, whole, p.before_end, p.text.size);
@@ -240,7 +241,7 @@ pub record IsCutNumber (e : Encoding) (b : List ℕ) (first end k offset : ℕ) 
   pub own : k ≤ length (part b first end)
   pub offset_is : offset ≡ start len_utf8 (part b first end) k
 
-pub cut_number : (e : Encoding) (b : List ℕ) (first end offset : ℕ) → IsText e b first end → IsCharBoundary (own_bytes b first end) offset
+pub cut_number : (e : Encoding) (b : List ℕ) (first end offset : ℕ) → IsText (part_of e b first end) → IsCharBoundary (own_bytes (part_of e b first end)) offset
     → IsCutNumber e b first end (down len_utf8 (part b first end) offset) offset
 cut_number e b first end offset text cut =
     let t = part b first end in
@@ -267,30 +268,30 @@ part-scalar b first end k before =
     get_or-take (end - first) (drop first b) k 0 (omega (arith, before)) ∙ get_or-drop first b k 0
 
 -- a place that isn't the end lies before it in the storage too
-pub inside_storage : (e : Encoding) (b : List ℕ) (first end offset position : ℕ) → IsPlace e b first end offset position → offset < length (own_bytes b first end)
+pub inside_storage : (e : Encoding) (b : List ℕ) (first end offset position : ℕ) → IsPlace (part_of e b first end) offset position → offset < length (own_bytes (part_of e b first end))
     → position < start (width_in e) b end
 inside_storage e b first end offset position p h =
     ⊎_elim (λ l. l) (λ (l : start (width_in e) b end ≤ position). absurd (omega (arith, h, p.is_end (omega (arith, l, p.high))))) (cases_lt position (start (width_in e) b end))
 
-pub inside_bytes : (e : Encoding) (b : List ℕ) (first end offset position : ℕ) → IsPlace e b first end offset position → position < start (width_in e) b end
-    → offset < length (own_bytes b first end)
+pub inside_bytes : (e : Encoding) (b : List ℕ) (first end offset position : ℕ) → IsPlace (part_of e b first end) offset position → position < start (width_in e) b end
+    → offset < length (own_bytes (part_of e b first end))
 inside_bytes e b first end offset position p h =
-    ⊎_elim (λ l. l) (λ (l : length (own_bytes b first end) ≤ offset). absurd (omega (arith, h, p.at_end (omega (arith, l, p.within))))) (cases_lt offset (length (own_bytes b first end)))
+    ⊎_elim (λ l. l) (λ (l : length (own_bytes (part_of e b first end)) ≤ offset). absurd (omega (arith, h, p.at_end (omega (arith, l, p.within))))) (cases_lt offset (length (own_bytes (part_of e b first end))))
 
 pub record IsNextPlace (e : Encoding) (b : List ℕ) (first end offset position next_offset next_position : ℕ) : Type 0 where
-  pub place : IsPlace e b first end next_offset next_position
+  pub place : IsPlace (part_of e b first end) next_offset next_position
   pub number : down (width_in e) b next_position ≡ down (width_in e) b position + 1
   pub ahead : offset < next_offset
   pub storage_ahead : position < next_position
 
-pub next_place : (e : Encoding) (b : List ℕ) (first end offset position scalar width long : ℕ) → IsPlace e b first end offset position
+pub next_place : (e : Encoding) (b : List ℕ) (first end offset position scalar width long : ℕ) → IsPlace (part_of e b first end) offset position
     → position < start (width_in e) b end → scalar ≡ get_or b (down (width_in e) b position) 0
     → width ≡ width_in e (get_or b (down (width_in e) b position) 0) → long ≡ len_utf8 scalar
     → IsNextPlace e b first end offset position (offset + long) (position + width)
 next_place e b first end offset position scalar width long p inside is takes wide =
     let w = width_in e in
     let t = part b first end in
-    let k = own_number e b first position in
+    let k = own_number (part_of e b first end) position in
     let n = number_of e b first end offset position p in
     let before : first + k < end = before_in_storage e b (first + k) end (omega (arith, n.position_is, inside)) in
     let in_whole : first + k < length b = omega (arith, before, p.text.inside) in
@@ -309,20 +310,20 @@ next_place e b first end offset position scalar width long p inside is takes wid
     }
 
 -- a step of one scalar doesn't pass a byte where the text may be cut
-pub not_past : (e : Encoding) (b : List ℕ) (first end offset position next_offset next_position to : ℕ) → IsPlace e b first end offset position
-    → IsPlace e b first end next_offset next_position → down (width_in e) b next_position ≡ down (width_in e) b position + 1
-    → IsCharBoundary (own_bytes b first end) to → offset < to → next_offset ≤ to
+pub not_past : (e : Encoding) (b : List ℕ) (first end offset position next_offset next_position to : ℕ) → IsPlace (part_of e b first end) offset position
+    → IsPlace (part_of e b first end) next_offset next_position → down (width_in e) b next_position ≡ down (width_in e) b position + 1
+    → IsCharBoundary (own_bytes (part_of e b first end)) to → offset < to → next_offset ≤ to
 not_past e b first end offset position next_offset next_position to p q one cut before =
     let t = part b first end in
     let m = cut_number e b first end to p.text cut in
     let n = number_of e b first end offset position p in
     let r = number_of e b first end next_offset next_position q in
-    let less = before_by_offset t (own_number e b first position) (down len_utf8 t to) (omega (arith, before, n.offset_is, m.offset_is)) in
-    omega (arith, r.offset_is, m.offset_is, start-mono len_utf8 t (own_number e b first next_position) (down len_utf8 t to) (omega (arith, less, n.whole, r.whole, one)))
+    let less = before_by_offset t (own_number (part_of e b first end) position) (down len_utf8 t to) (omega (arith, before, n.offset_is, m.offset_is)) in
+    omega (arith, r.offset_is, m.offset_is, start-mono len_utf8 t (own_number (part_of e b first end) next_position) (down len_utf8 t to) (omega (arith, less, n.whole, r.whole, one)))
 
 -- where the storage is UTF-8, bytes of the text are code units
-pub place_across : (e : Encoding) (b : List ℕ) (first end offset position to : ℕ) → e ≡ Utf8 → IsPlace e b first end offset position
-    → IsCharBoundary (own_bytes b first end) to → offset ≤ to → IsPlace e b first end to (position + (to - offset))
+pub place_across : (e : Encoding) (b : List ℕ) (first end offset position to : ℕ) → e ≡ Utf8 → IsPlace (part_of e b first end) offset position
+    → IsCharBoundary (own_bytes (part_of e b first end)) to → offset ≤ to → IsPlace (part_of e b first end) to (position + (to - offset))
 place_across Utf8 b first end offset position to same p cut order =
     let t = part b first end in
     let m = cut_number Utf8 b first end to p.text cut in
@@ -335,12 +336,12 @@ place_across Utf8 b first end offset position to same p cut order =
       n.offset_is,
       n.position_is,
       start-part len_utf8 b first end (down len_utf8 t to) (omega (arith, m.inside)),
-      start-part len_utf8 b first end (own_number Utf8 b first position) (omega (arith, n.inside)),
+      start-part len_utf8 b first end (own_number (part_of Utf8 b first end) position) (omega (arith, n.inside)),
     ))
 place_across Utf16 b first end offset position to same p cut order = cc
 
-pub length_across : (e : Encoding) (b : List ℕ) (first end low high : ℕ) → e ≡ Utf8 → IsText e b first end → low ≡ start (width_in e) b first
-    → high ≡ start (width_in e) b end → high - low ≡ length (own_bytes b first end)
+pub length_across : (e : Encoding) (b : List ℕ) (first end low high : ℕ) → e ≡ Utf8 → IsText (part_of e b first end) → low ≡ start (width_in e) b first
+    → high ≡ start (width_in e) b end → high - low ≡ length (own_bytes (part_of e b first end))
 length_across Utf8 b first end low high same text low_is high_is =
     let t = part b first end in
     let whole : first + (end - first) ≡ end = omega (arith, text.order) in

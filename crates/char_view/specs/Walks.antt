@@ -1,13 +1,12 @@
 -- A walk from Character to Character.
 use Rattle.std.specs.Prelude.{◌≡◌, ℕ, ◌+◌, ◌-◌, ◌<◌, ◌≤◌, ◌^◌, Bool, true, false, List, length, take, IsUtf8}
 use Rattle.std.specs.Str.{IsCharBoundary}
-use Rattle.text_spec.specs.declared.encoding.Encoding.{Encoding}
-use Rattle.text_spec.specs.Views.{part}
+use Rattle.word_units.specs.Parts.{Part, text_in}
 use Rattle.unicode_segmentation.specs.Cursor.{IsChunkOf, IsCursorOn, cursor_offset, cursor_is_extended, cursor_is_resuming}
 use Rattle.unicode_segmentation.specs.Grapheme.{is_grapheme_break}
 use Rattle.unicode_segmentation.specs.Segments.{breaks_at}
-use Rattle.char_view.specs.Characters.{character_start, character_count}
-use Rattle.char_view.specs.Answers.{character_position, count_of}
+use Rattle.char_view.specs.Characters.{character_start}
+use Rattle.char_view.specs.Answers.{character_position, characters_in}
 use Rattle.char_view.specs.Places.{IsPlace, own_bytes, own_number}
 use Rattle.char_view.specs.declared.piece.Piece.{Piece}
 use Rattle.char_view.specs.declared.span.Span.{Span}
@@ -29,29 +28,29 @@ pub record IsPieceOf (text : List ℕ) (piece : Piece) : Type 0 where
   pub long : length (take piece.size piece.bytes) ≡ piece.size
 
 -- the walk stands at the start of a Character or at the end, and knows how many it has passed
-pub record IsWalk (storage : Encoding) (whole : List ℕ) (first end : ℕ) (walk : Walk) : Type 0 where
-  pub place : IsPlace storage whole first end walk.at.offset walk.at.position
-  pub passed : character_start (part whole first end) walk.number ≡ own_number storage whole first walk.at.position
-  pub within : walk.number ≤ character_count (part whole first end)
+pub record IsWalk (t : Part) (walk : Walk) : Type 0 where
+  pub place : IsPlace t walk.at.offset walk.at.position
+  pub passed : character_start (text_in t) walk.number ≡ own_number t walk.at.position
+  pub within : walk.number ≤ characters_in t
   pub small : walk.number < 2 ^ 48
-  pub len : walk.len ≡ length (own_bytes whole first end)
-  pub on : IsCursorOn walk.cursor (own_bytes whole first end)
+  pub len : walk.len ≡ length (own_bytes t)
+  pub on : IsCursorOn walk.cursor (own_bytes t)
   pub offset : cursor_offset walk.cursor ≡ walk.at.offset
   pub extended : cursor_is_extended walk.cursor ≡ true
   pub done : cursor_is_resuming walk.cursor ≡ false
-  pub piece : IsPieceOf (own_bytes whole first end) walk.piece
+  pub piece : IsPieceOf (own_bytes t) walk.piece
 
 -- a Character that the walk has passed last, or the end, at which the walk stands
-pub record IsSpan (storage : Encoding) (whole : List ℕ) (first end : ℕ) (span : Span) (walk : Walk) : Type 0 where
-  pub walks : IsWalk storage whole first end walk
-  pub number : span.number ≤ count_of whole first end
+pub record IsSpan (t : Part) (span : Span) (walk : Walk) : Type 0 where
+  pub walks : IsWalk t walk
+  pub number : span.number ≤ characters_in t
   pub few : span.number < 2 ^ 48
-  pub from : span.from ≡ character_position storage whole first end span.number
-  pub to : span.to ≡ character_position storage whole first end (span.number + 1)
-  pub previous : 0 < span.number → span.previous ≡ character_position storage whole first end (span.number - 1)
+  pub from : span.from ≡ character_position t span.number
+  pub to : span.to ≡ character_position t (span.number + 1)
+  pub previous : 0 < span.number → span.previous ≡ character_position t (span.number - 1)
   pub behind : span.previous ≤ span.from
   pub order : span.from ≤ span.to
   pub small : span.to < 2 ^ 48
   pub at : walk.at.position ≡ span.to
-  pub passed : span.from < span.to → (walk.number ≡ span.number + 1) × (span.number < count_of whole first end)
-  pub is_end : span.from ≡ span.to → (walk.number ≡ span.number) × (span.number ≡ count_of whole first end)
+  pub passed : span.from < span.to → (walk.number ≡ span.number + 1) × (span.number < characters_in t)
+  pub is_end : span.from ≡ span.to → (walk.number ≡ span.number) × (span.number ≡ characters_in t)

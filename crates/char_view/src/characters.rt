@@ -5,7 +5,9 @@
 //! goes from the text's start, since what ends a Character may lie arbitrarily far before it; its cost is linear in what it passes.
 ghost use Rattle.std.specs.Prelude.{◌≡◌, ◌≢◌, ◌+◌, ◌-◌, ◌<◌, ◌≤◌, ◌⊎◌, IfOk, IfErr, IfSome, IfNone, pos, ◌+ℤ◌, ◌<ℤ◌};
 ghost use Rattle.index_words.specs.Fields.{position_of, stride_of};
-ghost use Rattle.char_view.specs.Answers.{count_of, character_index, offset_at, without_stride, IsTrueAt, IsFloorOf, IsElement, IsAfter, IsBefore, IsMoved, IsDistance, IsStopped, IsMoveOut, IsEitherOut, IsOutOfRange};
+ghost use Rattle.rounding.specs.Elements.{IsElement, IsAfter, IsBefore, IsMoved, IsDistance, IsStopped, IsMoveOut};
+ghost use Rattle.rounding.specs.Refusals.{IsOutOfRange, IsEitherOut};
+ghost use Rattle.char_view.specs.Answers.{characters_in, character_index, offset_at, without_stride, IsTrueAt, IsFloorOf, characters_of};
 ghost use Rattle.char_view.specs.Walks.{IsWalk, IsSpan};
 
 use crate::indices::{index_between, leaving, signed_gap, span_of};
@@ -18,7 +20,7 @@ use word_units::{OutOfBounds, Steps, Text};
 
 /// The index of the first Character, or of the end where there is none. The Character is read for its stride.
 pub fn start<T: Text, L: Ledger>(t: &mut T, steps: &mut Steps<L>) -> Index
-    ensures value { result ≡ character_index (T.storage t.old) (T.whole t.old) (T.first t.old) (T.end t.old) 0 }
+    ensures value { result ≡ character_index (T.part t.old) 0 }
     ensures kept { t.new ≡ t.old }
 {
     let mut walk = begin(t, steps);
@@ -29,8 +31,7 @@ pub fn start<T: Text, L: Ledger>(t: &mut T, steps: &mut Steps<L>) -> Index
 
 /// The index behind the last Character. No word is read.
 pub fn end<T: Text>(t: &T) -> Index
-    ensures { result ≡ character_index (T.storage t.now) (T.whole t.now) (T.first t.now) (T.end t.now)
-        (count_of (T.whole t.now) (T.first t.now) (T.end t.now)) }
+    ensures { result ≡ character_index (T.part t.now) (characters_in (T.part t.now)) }
 {
     let _count = t.count();
     let _low = t.low();
@@ -40,7 +41,7 @@ pub fn end<T: Text>(t: &T) -> Index
 
 /// The number of Characters. The text is read once.
 pub fn count<T: Text, L: Ledger>(t: &mut T, steps: &mut Steps<L>) -> u64
-    ensures value { result ≡ count_of (T.whole t.old) (T.first t.old) (T.end t.old) }
+    ensures value { result ≡ characters_in (T.part t.old) }
     ensures kept { t.new ≡ t.old }
 {
     count_all(t, steps)
@@ -54,8 +55,8 @@ pub fn floor<T: Text, L: Ledger>(
     i: Index,
     steps: &mut Steps<L>,
 ) -> Result<Index, OutOfBounds>
-    ensures floor { IfOk result (IsFloorOf (T.storage t.old) (T.whole t.old) (T.first t.old) (T.end t.old) i) }
-    ensures refused { IfErr result (IsOutOfRange (T.storage t.old) (T.whole t.old) (T.first t.old) (T.end t.old) i) }
+    ensures floor { IfOk result (IsFloorOf (T.part t.old) i) }
+    ensures refused { IfErr result (IsOutOfRange (T.part t.old) i) }
     ensures kept { t.new ≡ t.old }
 {
     match span_of(t, i, steps) {
@@ -73,9 +74,8 @@ pub fn element<T: Text, L: Ledger>(
     i: Index,
     steps: &mut Steps<L>,
 ) -> Result<(Index, Index), OutOfBounds>
-    ensures element { IfOk result (IsElement (T.storage t.old) (T.whole t.old) (T.first t.old) (T.end t.old) i) }
-    ensures refused { IfErr result (IsStopped (T.storage t.old) (T.whole t.old) (T.first t.old) (T.end t.old) i
-        (count_of (T.whole t.old) (T.first t.old) (T.end t.old))) }
+    ensures element { IfOk result (IsElement (characters_of (T.part t.old)) i) }
+    ensures refused { IfErr result (IsStopped (characters_of (T.part t.old)) i (characters_in (T.part t.old))) }
     ensures kept { t.new ≡ t.old }
 {
     let (span, mut walk) = match span_of(t, i, steps) {
@@ -102,9 +102,8 @@ pub fn after<T: Text, L: Ledger>(
     i: Index,
     steps: &mut Steps<L>,
 ) -> Result<Index, OutOfBounds>
-    ensures next { IfOk result (IsAfter (T.storage t.old) (T.whole t.old) (T.first t.old) (T.end t.old) i) }
-    ensures refused { IfErr result (IsStopped (T.storage t.old) (T.whole t.old) (T.first t.old) (T.end t.old) i
-        (count_of (T.whole t.old) (T.first t.old) (T.end t.old))) }
+    ensures next { IfOk result (IsAfter (characters_of (T.part t.old)) i) }
+    ensures refused { IfErr result (IsStopped (characters_of (T.part t.old)) i (characters_in (T.part t.old))) }
     ensures kept { t.new ≡ t.old }
 {
     match element(t, i, steps) {
@@ -122,8 +121,8 @@ pub fn before<T: Text, L: Ledger>(
     i: Index,
     steps: &mut Steps<L>,
 ) -> Result<Index, OutOfBounds>
-    ensures previous { IfOk result (IsBefore (T.storage t.old) (T.whole t.old) (T.first t.old) (T.end t.old) i) }
-    ensures refused { IfErr result (IsStopped (T.storage t.old) (T.whole t.old) (T.first t.old) (T.end t.old) i 0) }
+    ensures previous { IfOk result (IsBefore (characters_of (T.part t.old)) i) }
+    ensures refused { IfErr result (IsStopped (characters_of (T.part t.old)) i 0) }
     ensures kept { t.new ≡ t.old }
 {
     let (span, _) = match span_of(t, i, steps) {
@@ -147,8 +146,8 @@ pub fn offset_by<T: Text, L: Ledger>(
     n: i64,
     steps: &mut Steps<L>,
 ) -> Result<Index, OutOfBounds>
-    ensures there { IfOk result (IsMoved (T.storage t.old) (T.whole t.old) (T.first t.old) (T.end t.old) i n) }
-    ensures refused { IfErr result (IsMoveOut (T.storage t.old) (T.whole t.old) (T.first t.old) (T.end t.old) i n) }
+    ensures there { IfOk result (IsMoved (characters_of (T.part t.old)) i n) }
+    ensures refused { IfErr result (IsMoveOut (characters_of (T.part t.old)) i n) }
     ensures kept { t.new ≡ t.old }
 {
     let (span, walk) = match span_of(t, i, steps) {
@@ -168,11 +167,11 @@ fn index_on<T: Text, L: Ledger>(
     number: u64,
     steps: &mut Steps<L>,
 ) -> Option<(u64, Index)>
-    requires walk { IsWalk (T.storage t.old) (T.whole t.old) (T.first t.old) (T.end t.old) walk }
+    requires walk { IsWalk (T.part t.old) walk }
     requires before { walk.number ≤ number }
-    ensures index { IfSome result (λ there. (there.0 ≡ number) × (number ≤ count_of (T.whole t.old) (T.first t.old) (T.end t.old))
-        × (there.1 ≡ character_index (T.storage t.old) (T.whole t.old) (T.first t.old) (T.end t.old) number)) }
-    ensures none { IfNone result (count_of (T.whole t.old) (T.first t.old) (T.end t.old) < number) }
+    ensures index { IfSome result (λ there. (there.0 ≡ number) × (number ≤ characters_in (T.part t.old))
+        × (there.1 ≡ character_index (T.part t.old) number)) }
+    ensures none { IfNone result (characters_in (T.part t.old) < number) }
     ensures kept { t.new ≡ t.old }
 {
     let mut walk = walk;
@@ -192,9 +191,9 @@ fn index_back<T: Text, L: Ledger>(
     by: u64,
     steps: &mut Steps<L>,
 ) -> Option<(u64, Index)>
-    requires within { number ≤ count_of (T.whole t.old) (T.first t.old) (T.end t.old) }
+    requires within { number ≤ characters_in (T.part t.old) }
     ensures index { IfSome result (λ there. (there.0 + by ≡ number)
-        × (there.1 ≡ character_index (T.storage t.old) (T.whole t.old) (T.first t.old) (T.end t.old) there.0)) }
+        × (there.1 ≡ character_index (T.part t.old) there.0)) }
     ensures none { IfNone result (number < by) }
     ensures kept { t.new ≡ t.old }
 {
@@ -214,12 +213,12 @@ fn index_moved<T: Text, L: Ledger>(
     n: i64,
     steps: &mut Steps<L>,
 ) -> Option<(u64, Index)>
-    requires span { IsSpan (T.storage t.old) (T.whole t.old) (T.first t.old) (T.end t.old) span walk }
+    requires span { IsSpan (T.part t.old) span walk }
     ensures moved { IfSome result (λ there. pos span.number +ℤ n ≡ pos there.0) }
-    ensures within { IfSome result (λ there. there.0 ≤ count_of (T.whole t.old) (T.first t.old) (T.end t.old)) }
-    ensures index { IfSome result (λ there. there.1 ≡ character_index (T.storage t.old) (T.whole t.old) (T.first t.old) (T.end t.old) there.0) }
+    ensures within { IfSome result (λ there. there.0 ≤ characters_in (T.part t.old)) }
+    ensures index { IfSome result (λ there. there.1 ≡ character_index (T.part t.old) there.0) }
     ensures none { IfNone result (((pos span.number +ℤ n) <ℤ pos 0)
-        ⊎ (pos (count_of (T.whole t.old) (T.first t.old) (T.end t.old)) <ℤ (pos span.number +ℤ n))) }
+        ⊎ (pos (characters_in (T.part t.old)) <ℤ (pos span.number +ℤ n))) }
     ensures kept { t.new ≡ t.old }
 {
     if n <= 0 {
@@ -238,8 +237,8 @@ pub fn distance<T: Text, L: Ledger>(
     to: Index,
     steps: &mut Steps<L>,
 ) -> Result<i64, OutOfBounds>
-    ensures characters { IfOk result (IsDistance (T.storage t.old) (T.whole t.old) (T.first t.old) (T.end t.old) from to) }
-    ensures refused { IfErr result (IsEitherOut (T.storage t.old) (T.whole t.old) (T.first t.old) (T.end t.old) from to) }
+    ensures characters { IfOk result (IsDistance (characters_of (T.part t.old)) from to) }
+    ensures refused { IfErr result (IsEitherOut (T.part t.old) from to) }
     ensures kept { t.new ≡ t.old }
 {
     let (first, _) = match span_of(t, from, steps) {
@@ -259,10 +258,8 @@ pub fn distance<T: Text, L: Ledger>(
 /// the length of that Character of this text.
 pub fn after_true<T: Text>(t: &mut T, i: Index) -> Index
     requires stride { stride_of i ≢ 0 }
-    requires holds { IsTrueAt (T.storage t.old) (T.whole t.old) (T.first t.old) (T.end t.old) i
-        (offset_at (T.storage t.old) (T.whole t.old) (T.first t.old) (T.end t.old) (position_of i)) }
-    ensures next { result ≡ without_stride (character_index (T.storage t.old) (T.whole t.old) (T.first t.old) (T.end t.old)
-        (offset_at (T.storage t.old) (T.whole t.old) (T.first t.old) (T.end t.old) (position_of i) + 1)) }
+    requires holds { IsTrueAt (T.part t.old) i (offset_at (T.part t.old) (position_of i)) }
+    ensures next { result ≡ without_stride (character_index (T.part t.old) (offset_at (T.part t.old) (position_of i) + 1)) }
     ensures kept { t.new ≡ t.old }
 {
     fields_are_read_back();

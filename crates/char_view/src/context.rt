@@ -1,10 +1,10 @@
 //! Whether a Character ends at a place, where what decides it may lie far before that place.
-ghost use Rattle.std.specs.Prelude.{◌≡◌, ◌+◌, ◌<◌, length, take, true, IsNone};
+ghost use Rattle.std.specs.Prelude.{◌≡◌, ◌<◌, true, IsNone};
 ghost use Rattle.unicode_segmentation.specs.Cursor.{IsCursorOn, KeepsPlace, cursor_offset, cursor_awaits, cursor_is_extended};
 ghost use Rattle.char_view.specs.Places.{IsPlace, own_bytes};
 ghost use Rattle.char_view.specs.Walks.{IsPieceOf, breaks};
 
-use crate::piece::{Piece, piece_before, text_in};
+use crate::piece::{Piece, piece_before, piece_text};
 use crate::place::Place;
 use std::sync::ledger::Ledger;
 use unicode_segmentation::{GraphemeCursor, GraphemeIncomplete};
@@ -19,26 +19,26 @@ pub(crate) fn is_break<T: Text, L: Ledger>(
     at: Place,
     steps: &mut Steps<L>,
 ) -> bool
-    requires on { IsCursorOn cursor.old (own_bytes (T.whole t.old) (T.first t.old) (T.end t.old)) }
+    requires on { IsCursorOn cursor.old (own_bytes (T.part t.old)) }
     requires offset { cursor_offset cursor.old ≡ at.offset }
     requires extended { cursor_is_extended cursor.old ≡ true }
     requires fresh { IsNone (cursor_awaits cursor.old) }
-    requires place { IsPlace (T.storage t.old) (T.whole t.old) (T.first t.old) (T.end t.old) at.offset at.position }
-    requires piece { IsPieceOf (own_bytes (T.whole t.old) (T.first t.old) (T.end t.old)) piece.now }
+    requires place { IsPlace (T.part t.old) at.offset at.position }
+    requires piece { IsPieceOf (own_bytes (T.part t.old)) piece.now }
     requires begins { piece.now.offset ≡ at.offset }
     requires some { 0 < piece.now.size }
-    ensures value { result ≡ breaks (own_bytes (T.whole t.old) (T.first t.old) (T.end t.old)) at.offset }
-    ensures on { IsCursorOn cursor.new (own_bytes (T.whole t.old) (T.first t.old) (T.end t.old)) }
+    ensures value { result ≡ breaks (own_bytes (T.part t.old)) at.offset }
+    ensures on { IsCursorOn cursor.new (own_bytes (T.part t.old)) }
     ensures place { KeepsPlace cursor.old cursor.new }
     ensures kept { t.new ≡ t.old }
 {
     let mut back = at;
     'context: loop {
-        match cursor.is_boundary(text_in(&piece.bytes, piece.size), piece.offset) {
+        match cursor.is_boundary(piece_text(&piece.bytes, piece.size), piece.offset) {
             Ok(answer) => return answer,
             Err(GraphemeIncomplete::PreContext(_)) => {
                 let (context, begins) = piece_before(t, back, steps);
-                cursor.provide_context(text_in(&context.bytes, context.size), context.offset);
+                cursor.provide_context(piece_text(&context.bytes, context.size), context.offset);
                 back = begins;
             }
             Err(_) => unreachable!(),

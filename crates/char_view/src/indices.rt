@@ -1,16 +1,16 @@
 //! Index words of Characters, and indices rounded down to them.
 ghost use Rattle.std.specs.Prelude.{◌≡◌, ◌+◌, ◌-◌, ◌<◌, ◌≤◌, ◌^◌, IfOk, IfErr, Some, ℕ, pos, ◌+ℤ◌};
-ghost use Rattle.text_spec.specs.Offsets.{start, down};
-ghost use Rattle.text_spec.specs.Views.{width_in};
 ghost use Rattle.index_words.specs.Fields.{word_of};
-ghost use Rattle.char_view.specs.Answers.{character_fields, character_offset, offset_at, IsOutOfRange, leaves_text, character_position};
-ghost use Rattle.char_view.specs.Walks.{IsWalk, IsSpan};
+ghost use Rattle.rounding.specs.Elements.{leaves_text};
+ghost use Rattle.rounding.specs.Refusals.{IsOutOfRange};
+ghost use Rattle.char_view.specs.Answers.{character_fields, character_offset, character_position, characters_of};
+ghost use Rattle.char_view.specs.Walks.{IsSpan};
 
 use crate::span::{Span, span_at};
 use crate::walk::Walk;
 use index_words::Index;
 use index_words::laws::fields_are_read_back;
-use rounding::{resolve, scalar_floor};
+use rounding::scalar_boundary;
 use std::sync::ledger::Ledger;
 use text_spec::Encoding;
 use word_units::{OutOfBounds, Steps, Text};
@@ -32,51 +32,25 @@ pub(crate) fn index_between(storage: Encoding, from: u64, to: u64) -> Index
     index.with_stride(length as u32)
 }
 
-/// The scalar boundary that an index is rounded down to, in code units of the storage.
-fn floor_of<T: Text, L: Ledger>(
-    t: &mut T,
-    i: Index,
-    steps: &mut Steps<L>,
-) -> Result<u64, OutOfBounds>
-    ensures low { IfOk result (λ p. start (width_in (T.storage t.old)) (T.whole t.old) (T.first t.old) ≤ p) }
-    ensures high { IfOk result (λ p. p ≤ start (width_in (T.storage t.old)) (T.whole t.old) (T.end t.old)) }
-    ensures boundary { IfOk result (λ p. start (width_in (T.storage t.old)) (T.whole t.old) (down (width_in (T.storage t.old)) (T.whole t.old) p) ≡ p) }
-    ensures offset { IfOk result (λ p. character_offset (T.storage t.old) (T.whole t.old) (T.first t.old) (T.end t.old) i
-        ≡ Some (offset_at (T.storage t.old) (T.whole t.old) (T.first t.old) (T.end t.old) p)) }
-    ensures refused { IfErr result (IsOutOfRange (T.storage t.old) (T.whole t.old) (T.first t.old) (T.end t.old) i) }
-    ensures kept { t.new ≡ t.old }
-{
-    fields_are_read_back();
-    let _count = t.count();
-    let _low = t.low();
-    let _high = t.high();
-    match resolve(t, i, steps) {
-        Ok(index) => Ok(scalar_floor(t, index, steps).position()),
-        Err(out) => Err(out),
-    }
-}
-
 /// The Character that an index is rounded down to, and a walk that has passed it.
 pub(crate) fn span_of<T: Text, L: Ledger>(
     t: &mut T,
     i: Index,
     steps: &mut Steps<L>,
 ) -> Result<(Span, Walk), OutOfBounds>
-    ensures span { IfOk result (λ r. IsSpan (T.storage t.old) (T.whole t.old) (T.first t.old) (T.end t.old) r.0 r.1) }
-    ensures offset { IfOk result (λ r. character_offset (T.storage t.old) (T.whole t.old) (T.first t.old) (T.end t.old) i ≡ Some r.0.number) }
-    ensures refused { IfErr result (IsOutOfRange (T.storage t.old) (T.whole t.old) (T.first t.old) (T.end t.old) i) }
+    ensures span { IfOk result (λ r. IsSpan (T.part t.old) r.0 r.1) }
+    ensures offset { IfOk result (λ r. character_offset (T.part t.old) i ≡ Some r.0.number) }
+    ensures refused { IfErr result (IsOutOfRange (T.part t.old) i) }
     ensures kept { t.new ≡ t.old }
 {
-    match floor_of(t, i, steps) {
-        Ok(p) => Ok(span_at(t, p, steps)),
-        Err(out) => Err(out),
-    }
+    let at = scalar_boundary(t, i, steps)?;
+    Ok(span_at(t, at, steps))
 }
 
 /// What a walk from a Character that would leave the text is refused with.
 pub(crate) fn leaving<T: Text>(t: &T, from: u64) -> OutOfBounds
-    ensures { (n : ℕ) → from ≡ character_position (T.storage t.now) (T.whole t.now) (T.first t.now) (T.end t.now) n
-        → result ≡ leaves_text (T.storage t.now) (T.whole t.now) (T.first t.now) (T.end t.now) n }
+    ensures { (n : ℕ) → from ≡ character_position (T.part t.now) n
+        → result ≡ leaves_text (characters_of (T.part t.now)) n }
 {
     OutOfBounds {
         position: from,

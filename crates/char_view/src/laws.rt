@@ -1,9 +1,9 @@
 //! What readers look for in the definition of Characters, each law a function with an empty body whose contract is the law.
 ghost use Rattle.std.specs.Prelude.{◌≡◌, ◌≢◌, ◌≤◌, ◌<◌, ◌+◌, ℕ, List, length, map, true};
 ghost use Rattle.std.specs.Str.{all_scalars};
-ghost use Rattle.text_spec.specs.declared.encoding.Encoding.{Encoding};
 ghost use Rattle.text_spec.specs.Text.{utf8};
 ghost use Rattle.index_words.specs.Fields.{position_of, stride_of};
+ghost use Rattle.word_units.specs.Parts.{Part};
 ghost use Rattle.unicode_segmentation.specs.Grapheme.{graphemes};
 ghost use Rattle.char_view.specs.Characters.{characters, character_count, character_start, character_of, is_character_boundary};
 ghost use Rattle.char_view.specs.Answers.{character_index, offset_at, IsTrueAt};
@@ -31,10 +31,8 @@ pub fn characters_end_at_boundaries()
 
 /// The index of a Character is true of its text wherever it keeps a stride, so that `after_true` takes what the calls answer.
 pub fn kept_strides_are_true()
-    ensures { (storage : Encoding) (whole : List ℕ) (first end n : ℕ) → IsText storage whole first end
-        → stride_of (character_index storage whole first end n) ≢ 0
-        → IsTrueAt storage whole first end (character_index storage whole first end n)
-        (offset_at storage whole first end (position_of (character_index storage whole first end n))) }
+    ensures { (t : Part) (n : ℕ) → IsText t → stride_of (character_index t n) ≢ 0
+        → IsTrueAt t (character_index t n) (offset_at t (position_of (character_index t n))) }
 {
     fields_are_read_back();
 }

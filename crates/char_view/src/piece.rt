@@ -1,6 +1,5 @@
 //! Pieces of a text at hand, each at most 64 bytes of UTF-8.
-ghost use Rattle.std.specs.Prelude.{◌≡◌, ◌+◌, ◌-◌, ◌<◌, ◌≤◌, ◌⊎◌, length, take, IsUtf8};
-ghost use Rattle.unicode_segmentation.specs.Cursor.{IsChunkOf};
+ghost use Rattle.std.specs.Prelude.{◌≡◌, ◌+◌, ◌-◌, ◌<◌, ◌≤◌, length, take, IsUtf8};
 ghost use Rattle.char_view.specs.Places.{IsPlace, own_bytes};
 ghost use Rattle.char_view.specs.Walks.{IsPieceOf};
 
@@ -20,7 +19,7 @@ pub(crate) struct Piece {
 }
 
 /// The UTF-8 at the front of a buffer.
-pub(crate) fn text_in(bytes: &[u8; 64], size: usize) -> &str
+pub(crate) fn piece_text(bytes: &[u8; 64], size: usize) -> &str
     requires fits { size ≤ 64 }
     requires utf8 { IsUtf8 (take size bytes.now) }
     ensures { result.now ≡ take size bytes.now }
@@ -31,10 +30,10 @@ pub(crate) fn text_in(bytes: &[u8; 64], size: usize) -> &str
 
 /// The piece from a place on, of whole scalars: as many as have room. Only at the text's end is there none.
 pub(crate) fn piece_from<T: Text, L: Ledger>(t: &mut T, at: Place, steps: &mut Steps<L>) -> Piece
-    requires place { IsPlace (T.storage t.old) (T.whole t.old) (T.first t.old) (T.end t.old) at.offset at.position }
-    ensures piece { IsPieceOf (own_bytes (T.whole t.old) (T.first t.old) (T.end t.old)) result }
+    requires place { IsPlace (T.part t.old) at.offset at.position }
+    ensures piece { IsPieceOf (own_bytes (T.part t.old)) result }
     ensures offset { result.offset ≡ at.offset }
-    ensures some { at.offset < length (own_bytes (T.whole t.old) (T.first t.old) (T.end t.old)) → 0 < result.size }
+    ensures some { at.offset < length (own_bytes (T.part t.old)) → 0 < result.size }
     ensures kept { t.new ≡ t.old }
 {
     let mut bytes = [0u8; 64];
@@ -52,10 +51,10 @@ pub(crate) fn piece_before<T: Text, L: Ledger>(
     at: Place,
     steps: &mut Steps<L>,
 ) -> (Piece, Place)
-    requires place { IsPlace (T.storage t.old) (T.whole t.old) (T.first t.old) (T.end t.old) at.offset at.position }
-    ensures piece { IsPieceOf (own_bytes (T.whole t.old) (T.first t.old) (T.end t.old)) result.0 }
+    requires place { IsPlace (T.part t.old) at.offset at.position }
+    ensures piece { IsPieceOf (own_bytes (T.part t.old)) result.0 }
     ensures end { result.0.offset + result.0.size ≡ at.offset }
-    ensures place { IsPlace (T.storage t.old) (T.whole t.old) (T.first t.old) (T.end t.old) result.1.offset result.1.position }
+    ensures place { IsPlace (T.part t.old) result.1.offset result.1.position }
     ensures offset { result.1.offset ≡ result.0.offset }
     ensures some { 0 < at.offset → 0 < result.0.size }
     ensures kept { t.new ≡ t.old }

@@ -2,8 +2,8 @@
 ghost use Rattle.std.specs.Prelude.{◌≡◌, ◌+◌, ◌-◌, ◌<◌, ◌≤◌, length};
 ghost use Rattle.std.specs.Str.{IsCharBoundary};
 ghost use Rattle.text_spec.specs.declared.encoding.Encoding.TheVariants.{Utf8, Utf16};
-ghost use Rattle.text_spec.specs.Offsets.{start, down};
-ghost use Rattle.text_spec.specs.Views.{width_in};
+ghost use Rattle.text_spec.specs.Offsets.{start};
+ghost use Rattle.word_units.specs.Parts.{low_of, high_of, scalars_before};
 ghost use Rattle.char_view.specs.Places.{IsText, IsPlace, own_bytes};
 
 use std::sync::ledger::Ledger;
@@ -21,9 +21,9 @@ pub(crate) struct Place {
 
 /// The text's start.
 pub(crate) fn first_place<T: Text>(t: &T) -> Place
-    ensures text { IsText (T.storage t.now) (T.whole t.now) (T.first t.now) (T.end t.now) }
-    ensures place { IsPlace (T.storage t.now) (T.whole t.now) (T.first t.now) (T.end t.now) result.offset result.position }
-    ensures start { (result.offset ≡ 0) × (result.position ≡ start (width_in (T.storage t.now)) (T.whole t.now) (T.first t.now)) }
+    ensures text { IsText (T.part t.now) }
+    ensures place { IsPlace (T.part t.now) result.offset result.position }
+    ensures start { (result.offset ≡ 0) × (result.position ≡ low_of (T.part t.now)) }
 {
     let _count = t.count();
     let _high = t.high();
@@ -35,10 +35,10 @@ pub(crate) fn first_place<T: Text>(t: &T) -> Place
 
 /// The place behind the scalar at a place that isn't the end. At most two words are read.
 pub(crate) fn place_behind<T: Text, L: Ledger>(t: &mut T, at: Place, steps: &mut Steps<L>) -> Place
-    requires place { IsPlace (T.storage t.old) (T.whole t.old) (T.first t.old) (T.end t.old) at.offset at.position }
-    requires inside { at.position < start (width_in (T.storage t.old)) (T.whole t.old) (T.end t.old) }
-    ensures place { IsPlace (T.storage t.old) (T.whole t.old) (T.first t.old) (T.end t.old) result.offset result.position }
-    ensures number { down (width_in (T.storage t.old)) (T.whole t.old) result.position ≡ down (width_in (T.storage t.old)) (T.whole t.old) at.position + 1 }
+    requires place { IsPlace (T.part t.old) at.offset at.position }
+    requires inside { at.position < high_of (T.part t.old) }
+    ensures place { IsPlace (T.part t.old) result.offset result.position }
+    ensures number { scalars_before (T.part t.old) result.position ≡ scalars_before (T.part t.old) at.position + 1 }
     ensures ahead { (at.offset < result.offset) × (at.position < result.position) }
     ensures kept { t.new ≡ t.old }
 {
@@ -57,10 +57,10 @@ fn place_walked_to<T: Text, L: Ledger>(
     offset: usize,
     steps: &mut Steps<L>,
 ) -> Place
-    requires place { IsPlace (T.storage t.old) (T.whole t.old) (T.first t.old) (T.end t.old) from.offset from.position }
+    requires place { IsPlace (T.part t.old) from.offset from.position }
     requires order { from.offset ≤ offset }
-    requires cut { IsCharBoundary (own_bytes (T.whole t.old) (T.first t.old) (T.end t.old)) offset }
-    ensures place { IsPlace (T.storage t.old) (T.whole t.old) (T.first t.old) (T.end t.old) result.offset result.position }
+    requires cut { IsCharBoundary (own_bytes (T.part t.old)) offset }
+    ensures place { IsPlace (T.part t.old) result.offset result.position }
     ensures offset { result.offset ≡ offset }
     ensures kept { t.new ≡ t.old }
 {
@@ -80,10 +80,10 @@ pub(crate) fn place_at<T: Text, L: Ledger>(
     offset: usize,
     steps: &mut Steps<L>,
 ) -> Place
-    requires place { IsPlace (T.storage t.old) (T.whole t.old) (T.first t.old) (T.end t.old) from.offset from.position }
+    requires place { IsPlace (T.part t.old) from.offset from.position }
     requires order { from.offset ≤ offset }
-    requires cut { IsCharBoundary (own_bytes (T.whole t.old) (T.first t.old) (T.end t.old)) offset }
-    ensures place { IsPlace (T.storage t.old) (T.whole t.old) (T.first t.old) (T.end t.old) result.offset result.position }
+    requires cut { IsCharBoundary (own_bytes (T.part t.old)) offset }
+    ensures place { IsPlace (T.part t.old) result.offset result.position }
     ensures offset { result.offset ≡ offset }
     ensures kept { t.new ≡ t.old }
 {
@@ -98,7 +98,7 @@ pub(crate) fn place_at<T: Text, L: Ledger>(
 
 /// How many bytes the UTF-8 of a text takes, by a walk over its scalars.
 fn walked_len<T: Text, L: Ledger>(t: &mut T, steps: &mut Steps<L>) -> usize
-    ensures len { result ≡ length (own_bytes (T.whole t.old) (T.first t.old) (T.end t.old)) }
+    ensures len { result ≡ length (own_bytes (T.part t.old)) }
     ensures kept { t.new ≡ t.old }
 {
     let high = t.high();
@@ -111,7 +111,7 @@ fn walked_len<T: Text, L: Ledger>(t: &mut T, steps: &mut Steps<L>) -> usize
 
 /// How many bytes the UTF-8 of a text takes. In UTF-16 storage it is counted, at two words a scalar at most.
 pub(crate) fn text_len<T: Text, L: Ledger>(t: &mut T, steps: &mut Steps<L>) -> usize
-    ensures len { result ≡ length (own_bytes (T.whole t.old) (T.first t.old) (T.end t.old)) }
+    ensures len { result ≡ length (own_bytes (T.part t.old)) }
     ensures kept { t.new ≡ t.old }
 {
     let start = first_place(t);

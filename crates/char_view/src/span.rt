@@ -1,8 +1,7 @@
 //! Characters found by a walk from the text's start.
 ghost use Rattle.std.specs.Prelude.{◌≡◌, ◌+◌, ◌-◌, ◌<◌, ◌≤◌, ◌↔◌, true, false, IsTrue};
-ghost use Rattle.text_spec.specs.Offsets.{start, down};
-ghost use Rattle.text_spec.specs.Views.{width_in};
-ghost use Rattle.char_view.specs.Answers.{character_position, count_of, offset_at};
+ghost use Rattle.word_units.specs.Parts.{low_of, high_of, IsBoundaryIn};
+ghost use Rattle.char_view.specs.Answers.{character_position, characters_in, offset_at};
 ghost use Rattle.char_view.specs.Walks.{IsWalk, IsSpan};
 
 use crate::walk::{Walk, begin, pass};
@@ -21,13 +20,13 @@ pub(crate) struct Span {
 
 /// Passes a Character, where the walk doesn't stand at the end.
 pub(crate) fn pass_any<T: Text, L: Ledger>(t: &mut T, walk: &mut Walk, steps: &mut Steps<L>)
-    requires walk { IsWalk (T.storage t.old) (T.whole t.old) (T.first t.old) (T.end t.old) walk.old }
-    ensures walk { IsWalk (T.storage t.old) (T.whole t.old) (T.first t.old) (T.end t.old) walk.new }
-    ensures position { walk.new.at.position ≡ character_position (T.storage t.old) (T.whole t.old) (T.first t.old) (T.end t.old) (walk.old.number + 1) }
-    ensures here { walk.old.at.position ≡ character_position (T.storage t.old) (T.whole t.old) (T.first t.old) (T.end t.old) walk.old.number }
+    requires walk { IsWalk (T.part t.old) walk.old }
+    ensures walk { IsWalk (T.part t.old) walk.new }
+    ensures position { walk.new.at.position ≡ character_position (T.part t.old) (walk.old.number + 1) }
+    ensures here { walk.old.at.position ≡ character_position (T.part t.old) walk.old.number }
     ensures order { walk.old.at.position ≤ walk.new.at.position }
     ensures number { walk.old.at.position < walk.new.at.position → walk.new.number ≡ walk.old.number + 1 }
-    ensures last { walk.old.at.position ≡ walk.new.at.position → (walk.old.number ≡ count_of (T.whole t.old) (T.first t.old) (T.end t.old))
+    ensures last { walk.old.at.position ≡ walk.new.at.position → (walk.old.number ≡ characters_in (T.part t.old))
         × (walk.new.number ≡ walk.old.number) }
     ensures kept { t.new ≡ t.old }
 {
@@ -56,11 +55,11 @@ fn may_pass(number: u64, wanted: u64, at: u64, high: u64) -> bool
 ///
 /// `p` is a scalar boundary of the text, in code units of the storage.
 pub(crate) fn span_at<T: Text, L: Ledger>(t: &mut T, p: u64, steps: &mut Steps<L>) -> (Span, Walk)
-    requires boundary { start (width_in (T.storage t.old)) (T.whole t.old) (down (width_in (T.storage t.old)) (T.whole t.old) p) ≡ p }
-    requires low { start (width_in (T.storage t.old)) (T.whole t.old) (T.first t.old) ≤ p }
-    requires high { p ≤ start (width_in (T.storage t.old)) (T.whole t.old) (T.end t.old) }
-    ensures span { IsSpan (T.storage t.old) (T.whole t.old) (T.first t.old) (T.end t.old) result.0 result.1 }
-    ensures number { result.0.number ≡ offset_at (T.storage t.old) (T.whole t.old) (T.first t.old) (T.end t.old) p }
+    requires boundary { IsBoundaryIn (T.part t.old) p }
+    requires low { low_of (T.part t.old) ≤ p }
+    requires high { p ≤ high_of (T.part t.old) }
+    ensures span { IsSpan (T.part t.old) result.0 result.1 }
+    ensures number { result.0.number ≡ offset_at (T.part t.old) p }
     ensures kept { t.new ≡ t.old }
 {
     let mut walk = begin(t, steps);
@@ -93,11 +92,11 @@ pub(crate) fn pass_until<T: Text, L: Ledger>(
     number: u64,
     steps: &mut Steps<L>,
 ) -> bool
-    requires walk { IsWalk (T.storage t.old) (T.whole t.old) (T.first t.old) (T.end t.old) walk.old }
+    requires walk { IsWalk (T.part t.old) walk.old }
     requires before { walk.old.number ≤ number }
-    ensures walk { IsWalk (T.storage t.old) (T.whole t.old) (T.first t.old) (T.end t.old) walk.new }
-    ensures there { result ≡ true → (walk.new.number ≡ number) × (number ≤ count_of (T.whole t.old) (T.first t.old) (T.end t.old)) }
-    ensures past { result ≡ false → count_of (T.whole t.old) (T.first t.old) (T.end t.old) < number }
+    ensures walk { IsWalk (T.part t.old) walk.new }
+    ensures there { result ≡ true → (walk.new.number ≡ number) × (number ≤ characters_in (T.part t.old)) }
+    ensures past { result ≡ false → characters_in (T.part t.old) < number }
     ensures kept { t.new ≡ t.old }
 {
     let high = t.high();
@@ -109,7 +108,7 @@ pub(crate) fn pass_until<T: Text, L: Ledger>(
 
 /// How many Characters a text has.
 pub(crate) fn count_all<T: Text, L: Ledger>(t: &mut T, steps: &mut Steps<L>) -> u64
-    ensures value { result ≡ count_of (T.whole t.old) (T.first t.old) (T.end t.old) }
+    ensures value { result ≡ characters_in (T.part t.old) }
     ensures kept { t.new ≡ t.old }
 {
     let high = t.high();

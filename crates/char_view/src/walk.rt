@@ -2,13 +2,13 @@
 ghost use Rattle.std.specs.Prelude.{◌≡◌, ◌+◌, ◌<◌, ◌≤◌, length, true, false, IsUtf8, IsNone, IfSome, IfNone};
 ghost use Rattle.std.specs.Str.{IsCharBoundary};
 ghost use Rattle.text_spec.specs.Offsets.{start};
-ghost use Rattle.text_spec.specs.Views.{width_in};
+ghost use Rattle.word_units.specs.Parts.{low_of, high_of};
 ghost use Rattle.unicode_segmentation.specs.Cursor.{IsCursorOn, search_start, cursor_offset, cursor_awaits, cursor_is_extended, cursor_is_resuming};
 ghost use Rattle.char_view.specs.Places.{IsPlace, own_bytes};
 ghost use Rattle.char_view.specs.Walks.{IsPieceOf, IsWalk, breaks, HasNone};
 
 use crate::context::is_break;
-use crate::piece::{Piece, piece_from, text_in};
+use crate::piece::{Piece, piece_from, piece_text};
 use crate::place::{Place, first_place, place_at, place_behind, text_len};
 use std::sync::ledger::Ledger;
 use unicode_segmentation::GraphemeCursor;
@@ -29,10 +29,10 @@ pub(crate) struct Walk {
 
 /// A cursor that knows nothing of the text around its place, of a text whose UTF-8 takes `len` bytes.
 fn cursor_at<T: Text>(t: &T, at: usize, len: usize) -> GraphemeCursor
-    requires cut { IsCharBoundary (own_bytes (T.whole t.now) (T.first t.now) (T.end t.now)) at }
-    requires utf8 { IsUtf8 (own_bytes (T.whole t.now) (T.first t.now) (T.end t.now)) }
-    requires len { len ≡ length (own_bytes (T.whole t.now) (T.first t.now) (T.end t.now)) }
-    ensures on { IsCursorOn result (own_bytes (T.whole t.now) (T.first t.now) (T.end t.now)) }
+    requires cut { IsCharBoundary (own_bytes (T.part t.now)) at }
+    requires utf8 { IsUtf8 (own_bytes (T.part t.now)) }
+    requires len { len ≡ length (own_bytes (T.part t.now)) }
+    ensures on { IsCursorOn result (own_bytes (T.part t.now)) }
     ensures offset { cursor_offset result ≡ at }
     ensures extended { cursor_is_extended result ≡ true }
     ensures done { cursor_is_resuming result ≡ false }
@@ -47,11 +47,11 @@ fn cursor_at<T: Text>(t: &T, at: usize, len: usize) -> GraphemeCursor
 /// A step forward and one back tell it that no half of a flag stands before the start. A cursor that doesn't know this looks back
 /// over a whole run of flags at each of them.
 fn cursor_at_start<T: Text>(t: &T, piece: &Piece, len: usize) -> GraphemeCursor
-    requires cut { IsCharBoundary (own_bytes (T.whole t.now) (T.first t.now) (T.end t.now)) 0 }
-    requires utf8 { IsUtf8 (own_bytes (T.whole t.now) (T.first t.now) (T.end t.now)) }
-    requires len { len ≡ length (own_bytes (T.whole t.now) (T.first t.now) (T.end t.now)) }
-    requires piece { IsPieceOf (own_bytes (T.whole t.now) (T.first t.now) (T.end t.now)) piece.now }
-    ensures on { IsCursorOn result (own_bytes (T.whole t.now) (T.first t.now) (T.end t.now)) }
+    requires cut { IsCharBoundary (own_bytes (T.part t.now)) 0 }
+    requires utf8 { IsUtf8 (own_bytes (T.part t.now)) }
+    requires len { len ≡ length (own_bytes (T.part t.now)) }
+    requires piece { IsPieceOf (own_bytes (T.part t.now)) piece.now }
+    ensures on { IsCursorOn result (own_bytes (T.part t.now)) }
     ensures offset { cursor_offset result ≡ 0 }
     ensures extended { cursor_is_extended result ≡ true }
     ensures done { cursor_is_resuming result ≡ false }
@@ -65,16 +65,16 @@ fn cursor_at_start<T: Text>(t: &T, piece: &Piece, len: usize) -> GraphemeCursor
 
 /// Goes to the next boundary and back, where the piece tells both, and says whether the cursor stands at the text's start then.
 fn steps_back<T: Text>(t: &T, cursor: &mut GraphemeCursor, piece: &Piece) -> bool
-    requires on { IsCursorOn cursor.old (own_bytes (T.whole t.now) (T.first t.now) (T.end t.now)) }
+    requires on { IsCursorOn cursor.old (own_bytes (T.part t.now)) }
     requires extended { cursor_is_extended cursor.old ≡ true }
-    requires piece { IsPieceOf (own_bytes (T.whole t.now) (T.first t.now) (T.end t.now)) piece.now }
-    ensures on { result ≡ true → IsCursorOn cursor.new (own_bytes (T.whole t.now) (T.first t.now) (T.end t.now)) }
+    requires piece { IsPieceOf (own_bytes (T.part t.now)) piece.now }
+    ensures on { result ≡ true → IsCursorOn cursor.new (own_bytes (T.part t.now)) }
     ensures offset { result ≡ true → cursor_offset cursor.new ≡ 0 }
     ensures extended { cursor_is_extended cursor.new ≡ true }
     ensures done { result ≡ true → cursor_is_resuming cursor.new ≡ false }
 {
     let _encoding = t.encoding();
-    let text = text_in(&piece.bytes, piece.size);
+    let text = piece_text(&piece.bytes, piece.size);
     let Ok(Some(_)) = cursor.next_boundary(text, piece.offset) else {
         return false;
     };
@@ -86,21 +86,21 @@ fn steps_back<T: Text>(t: &T, cursor: &mut GraphemeCursor, piece: &Piece) -> boo
 
 /// The next boundary, where the piece at hand tells it.
 fn look<T: Text>(t: &T, cursor: &mut GraphemeCursor, piece: &Piece, place: usize) -> Option<usize>
-    requires on { IsCursorOn cursor.old (own_bytes (T.whole t.now) (T.first t.now) (T.end t.now)) }
+    requires on { IsCursorOn cursor.old (own_bytes (T.part t.now)) }
     requires offset { cursor_offset cursor.old ≡ place }
     requires extended { cursor_is_extended cursor.old ≡ true }
-    requires inside { place < length (own_bytes (T.whole t.now) (T.first t.now) (T.end t.now)) }
-    requires piece { IsPieceOf (own_bytes (T.whole t.now) (T.first t.now) (T.end t.now)) piece.now }
-    ensures found { IfSome result (λ next. (search_start cursor.old ≤ next) × IsCharBoundary (own_bytes (T.whole t.now) (T.first t.now) (T.end t.now)) next
-        × (breaks (own_bytes (T.whole t.now) (T.first t.now) (T.end t.now)) next ≡ true)
-        × HasNone (own_bytes (T.whole t.now) (T.first t.now) (T.end t.now)) (place + 1) next) }
+    requires inside { place < length (own_bytes (T.part t.now)) }
+    requires piece { IsPieceOf (own_bytes (T.part t.now)) piece.now }
+    ensures found { IfSome result (λ next. (search_start cursor.old ≤ next) × IsCharBoundary (own_bytes (T.part t.now)) next
+        × (breaks (own_bytes (T.part t.now)) next ≡ true)
+        × HasNone (own_bytes (T.part t.now)) (place + 1) next) }
     ensures moved { IfSome result (λ next. (cursor_offset cursor.new ≡ next) × (cursor_is_resuming cursor.new ≡ false)) }
-    ensures passed { IfNone result (HasNone (own_bytes (T.whole t.now) (T.first t.now) (T.end t.now)) (place + 1) (cursor_offset cursor.new)) }
-    ensures on { IsCursorOn cursor.new (own_bytes (T.whole t.now) (T.first t.now) (T.end t.now)) }
+    ensures passed { IfNone result (HasNone (own_bytes (T.part t.now)) (place + 1) (cursor_offset cursor.new)) }
+    ensures on { IsCursorOn cursor.new (own_bytes (T.part t.now)) }
     ensures extended { cursor_is_extended cursor.new ≡ true }
 {
     let _encoding = t.encoding();
-    match cursor.next_boundary(text_in(&piece.bytes, piece.size), piece.offset) {
+    match cursor.next_boundary(piece_text(&piece.bytes, piece.size), piece.offset) {
         Ok(Some(next)) => Some(next),
         Ok(None) => unreachable!(),
         Err(_) => None,
@@ -114,13 +114,13 @@ fn further<T: Text, L: Ledger>(
     place: Place,
     steps: &mut Steps<L>,
 ) -> Place
-    requires on { IsCursorOn cursor.now (own_bytes (T.whole t.old) (T.first t.old) (T.end t.old)) }
-    requires place { IsPlace (T.storage t.old) (T.whole t.old) (T.first t.old) (T.end t.old) place.offset place.position }
-    requires inside { place.offset < length (own_bytes (T.whole t.old) (T.first t.old) (T.end t.old)) }
-    requires passed { HasNone (own_bytes (T.whole t.old) (T.first t.old) (T.end t.old)) (place.offset + 1) (cursor_offset cursor.now) }
-    ensures place { IsPlace (T.storage t.old) (T.whole t.old) (T.first t.old) (T.end t.old) result.offset result.position }
+    requires on { IsCursorOn cursor.now (own_bytes (T.part t.old)) }
+    requires place { IsPlace (T.part t.old) place.offset place.position }
+    requires inside { place.offset < length (own_bytes (T.part t.old)) }
+    requires passed { HasNone (own_bytes (T.part t.old)) (place.offset + 1) (cursor_offset cursor.now) }
+    ensures place { IsPlace (T.part t.old) result.offset result.position }
     ensures ahead { place.offset < result.offset }
-    ensures passed { HasNone (own_bytes (T.whole t.old) (T.first t.old) (T.end t.old)) (place.offset + 1) result.offset }
+    ensures passed { HasNone (own_bytes (T.part t.old)) (place.offset + 1) result.offset }
     ensures kept { t.new ≡ t.old }
 {
     let reached = cursor.cur_cursor();
@@ -139,15 +139,15 @@ fn stops<T: Text, L: Ledger>(
     len: usize,
     steps: &mut Steps<L>,
 ) -> bool
-    requires on { IsCursorOn cursor.old (own_bytes (T.whole t.old) (T.first t.old) (T.end t.old)) }
+    requires on { IsCursorOn cursor.old (own_bytes (T.part t.old)) }
     requires extended { cursor_is_extended cursor.old ≡ true }
-    requires place { IsPlace (T.storage t.old) (T.whole t.old) (T.first t.old) (T.end t.old) at.offset at.position }
-    requires len { len ≡ length (own_bytes (T.whole t.old) (T.first t.old) (T.end t.old)) }
-    requires piece { IsPieceOf (own_bytes (T.whole t.old) (T.first t.old) (T.end t.old)) piece.now }
+    requires place { IsPlace (T.part t.old) at.offset at.position }
+    requires len { len ≡ length (own_bytes (T.part t.old)) }
+    requires piece { IsPieceOf (own_bytes (T.part t.old)) piece.now }
     requires begins { piece.now.offset ≡ at.offset }
-    requires some { at.offset < length (own_bytes (T.whole t.old) (T.first t.old) (T.end t.old)) → 0 < piece.now.size }
-    ensures value { result ≡ breaks (own_bytes (T.whole t.old) (T.first t.old) (T.end t.old)) at.offset }
-    ensures on { IsCursorOn cursor.new (own_bytes (T.whole t.old) (T.first t.old) (T.end t.old)) }
+    requires some { at.offset < length (own_bytes (T.part t.old)) → 0 < piece.now.size }
+    ensures value { result ≡ breaks (own_bytes (T.part t.old)) at.offset }
+    ensures on { IsCursorOn cursor.new (own_bytes (T.part t.old)) }
     ensures offset { cursor_offset cursor.new ≡ at.offset }
     ensures extended { cursor_is_extended cursor.new ≡ true }
     ensures kept { t.new ≡ t.old }
@@ -156,7 +156,7 @@ fn stops<T: Text, L: Ledger>(
     if at.offset == len {
         return true;
     }
-    if let Ok(answer) = cursor.is_boundary(text_in(&piece.bytes, piece.size), piece.offset) {
+    if let Ok(answer) = cursor.is_boundary(piece_text(&piece.bytes, piece.size), piece.offset) {
         return answer;
     }
     *cursor = cursor_at(t, at.offset, len);
@@ -165,12 +165,12 @@ fn stops<T: Text, L: Ledger>(
 
 /// Has the cursor take the boundary at which it stands, so that it looks behind that next.
 fn take_boundary<T: Text>(t: &T, cursor: &mut GraphemeCursor, piece: &Piece, at: usize, len: usize)
-    requires on { IsCursorOn cursor.old (own_bytes (T.whole t.now) (T.first t.now) (T.end t.now)) }
+    requires on { IsCursorOn cursor.old (own_bytes (T.part t.now)) }
     requires offset { cursor_offset cursor.old ≡ at }
     requires extended { cursor_is_extended cursor.old ≡ true }
-    requires len { len ≡ length (own_bytes (T.whole t.now) (T.first t.now) (T.end t.now)) }
-    requires piece { IsPieceOf (own_bytes (T.whole t.now) (T.first t.now) (T.end t.now)) piece.now }
-    ensures on { IsCursorOn cursor.new (own_bytes (T.whole t.now) (T.first t.now) (T.end t.now)) }
+    requires len { len ≡ length (own_bytes (T.part t.now)) }
+    requires piece { IsPieceOf (own_bytes (T.part t.now)) piece.now }
+    ensures on { IsCursorOn cursor.new (own_bytes (T.part t.now)) }
     ensures offset { cursor_offset cursor.new ≡ at }
     ensures extended { cursor_is_extended cursor.new ≡ true }
     ensures done { cursor_is_resuming cursor.new ≡ false }
@@ -185,16 +185,16 @@ fn take_boundary<T: Text>(t: &T, cursor: &mut GraphemeCursor, piece: &Piece, at:
 ///
 /// It is where the cursor broke off a search there, and what it knows of half a flag stays with it.
 fn takes<T: Text>(t: &T, cursor: &mut GraphemeCursor, piece: &Piece, at: usize) -> bool
-    requires on { IsCursorOn cursor.old (own_bytes (T.whole t.now) (T.first t.now) (T.end t.now)) }
+    requires on { IsCursorOn cursor.old (own_bytes (T.part t.now)) }
     requires extended { cursor_is_extended cursor.old ≡ true }
-    requires piece { IsPieceOf (own_bytes (T.whole t.now) (T.first t.now) (T.end t.now)) piece.now }
-    ensures on { IsCursorOn cursor.new (own_bytes (T.whole t.now) (T.first t.now) (T.end t.now)) }
+    requires piece { IsPieceOf (own_bytes (T.part t.now)) piece.now }
+    ensures on { IsCursorOn cursor.new (own_bytes (T.part t.now)) }
     ensures offset { result ≡ true → cursor_offset cursor.new ≡ at }
     ensures extended { cursor_is_extended cursor.new ≡ true }
     ensures done { result ≡ true → cursor_is_resuming cursor.new ≡ false }
 {
     let _encoding = t.encoding();
-    match cursor.next_boundary(text_in(&piece.bytes, piece.size), piece.offset) {
+    match cursor.next_boundary(piece_text(&piece.bytes, piece.size), piece.offset) {
         Ok(Some(next)) => next == at,
         Ok(None) => false,
         Err(_) => false,
@@ -203,9 +203,9 @@ fn takes<T: Text>(t: &T, cursor: &mut GraphemeCursor, piece: &Piece, at: usize) 
 
 /// The piece that is handed to the cursor first: the one at hand, or where that has nothing behind the place, the one from there on.
 fn ready<T: Text, L: Ledger>(t: &mut T, piece: &mut Piece, at: Place, steps: &mut Steps<L>)
-    requires place { IsPlace (T.storage t.old) (T.whole t.old) (T.first t.old) (T.end t.old) at.offset at.position }
-    requires piece { IsPieceOf (own_bytes (T.whole t.old) (T.first t.old) (T.end t.old)) piece.old }
-    ensures piece { IsPieceOf (own_bytes (T.whole t.old) (T.first t.old) (T.end t.old)) piece.new }
+    requires place { IsPlace (T.part t.old) at.offset at.position }
+    requires piece { IsPieceOf (own_bytes (T.part t.old)) piece.old }
+    ensures piece { IsPieceOf (own_bytes (T.part t.old)) piece.new }
     ensures kept { t.new ≡ t.old }
 {
     if at.offset >= piece.offset + piece.size {
@@ -222,23 +222,23 @@ fn next_break<T: Text, L: Ledger>(
     len: usize,
     steps: &mut Steps<L>,
 ) -> Place
-    requires on { IsCursorOn cursor.old (own_bytes (T.whole t.old) (T.first t.old) (T.end t.old)) }
+    requires on { IsCursorOn cursor.old (own_bytes (T.part t.old)) }
     requires offset { cursor_offset cursor.old ≡ at.offset }
     requires extended { cursor_is_extended cursor.old ≡ true }
     requires done { cursor_is_resuming cursor.old ≡ false }
-    requires place { IsPlace (T.storage t.old) (T.whole t.old) (T.first t.old) (T.end t.old) at.offset at.position }
-    requires len { len ≡ length (own_bytes (T.whole t.old) (T.first t.old) (T.end t.old)) }
+    requires place { IsPlace (T.part t.old) at.offset at.position }
+    requires len { len ≡ length (own_bytes (T.part t.old)) }
     requires inside { at.offset < len }
-    requires piece { IsPieceOf (own_bytes (T.whole t.old) (T.first t.old) (T.end t.old)) piece.old }
-    ensures place { IsPlace (T.storage t.old) (T.whole t.old) (T.first t.old) (T.end t.old) result.offset result.position }
+    requires piece { IsPieceOf (own_bytes (T.part t.old)) piece.old }
+    ensures place { IsPlace (T.part t.old) result.offset result.position }
     ensures ahead { at.offset < result.offset }
-    ensures ends { breaks (own_bytes (T.whole t.old) (T.first t.old) (T.end t.old)) result.offset ≡ true }
-    ensures first { HasNone (own_bytes (T.whole t.old) (T.first t.old) (T.end t.old)) (at.offset + 1) result.offset }
-    ensures on { IsCursorOn cursor.new (own_bytes (T.whole t.old) (T.first t.old) (T.end t.old)) }
+    ensures ends { breaks (own_bytes (T.part t.old)) result.offset ≡ true }
+    ensures first { HasNone (own_bytes (T.part t.old)) (at.offset + 1) result.offset }
+    ensures on { IsCursorOn cursor.new (own_bytes (T.part t.old)) }
     ensures offset { cursor_offset cursor.new ≡ result.offset }
     ensures extended { cursor_is_extended cursor.new ≡ true }
     ensures done { cursor_is_resuming cursor.new ≡ false }
-    ensures piece { IsPieceOf (own_bytes (T.whole t.old) (T.first t.old) (T.end t.old)) piece.new }
+    ensures piece { IsPieceOf (own_bytes (T.part t.old)) piece.new }
     ensures kept { t.new ≡ t.old }
 {
     ready(t, piece, at, steps);
@@ -259,8 +259,8 @@ fn next_break<T: Text, L: Ledger>(
 
 /// A walk at the text's start.
 pub(crate) fn begin<T: Text, L: Ledger>(t: &mut T, steps: &mut Steps<L>) -> Walk
-    ensures walk { IsWalk (T.storage t.old) (T.whole t.old) (T.first t.old) (T.end t.old) result }
-    ensures start { (result.number ≡ 0) × (result.at.position ≡ start (width_in (T.storage t.old)) (T.whole t.old) (T.first t.old)) }
+    ensures walk { IsWalk (T.part t.old) result }
+    ensures start { (result.number ≡ 0) × (result.at.position ≡ low_of (T.part t.old)) }
     ensures kept { t.new ≡ t.old }
 {
     let len = text_len(t, steps);
@@ -278,9 +278,9 @@ pub(crate) fn begin<T: Text, L: Ledger>(t: &mut T, steps: &mut Steps<L>) -> Walk
 
 /// Passes a Character.
 pub(crate) fn pass<T: Text, L: Ledger>(t: &mut T, walk: &mut Walk, steps: &mut Steps<L>)
-    requires walk { IsWalk (T.storage t.old) (T.whole t.old) (T.first t.old) (T.end t.old) walk.old }
-    requires inside { walk.old.at.position < start (width_in (T.storage t.old)) (T.whole t.old) (T.end t.old) }
-    ensures walk { IsWalk (T.storage t.old) (T.whole t.old) (T.first t.old) (T.end t.old) walk.new }
+    requires walk { IsWalk (T.part t.old) walk.old }
+    requires inside { walk.old.at.position < high_of (T.part t.old) }
+    ensures walk { IsWalk (T.part t.old) walk.new }
     ensures number { walk.new.number ≡ walk.old.number + 1 }
     ensures ahead { walk.old.at.position < walk.new.at.position }
     ensures kept { t.new ≡ t.old }

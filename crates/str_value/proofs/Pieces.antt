@@ -14,13 +14,14 @@ use Rattle.text_spec.proofs.Downward.{down-length}
 use Rattle.text_spec.proofs.Walk.{start-zero, start-strict, start-le, down-start}
 use Rattle.text_spec.proofs.Widths.{width_some, width_most}
 use Rattle.word_units.specs.Filling.{IsPiece}
+use Rattle.word_units.specs.Parts.{all_of}
 use Rattle.std.specs.List.{splice}
-use Rattle.str_value.specs.Meaning.{Meaning, storage_of}
+use Rattle.str_value.specs.Meaning.{Meaning, storage_of, own_part}
 use Rattle.text_spec.proofs.Replacing.{back8}
 use Rattle.str_value.proofs.Spliced.{length-splice, number}
 
 -- `size` bytes of the buffer are the scalars from `from` to `to`, and no more had room in 64 bytes
-module _ (e : Encoding) (t : List ℕ) (from to size : ℕ) (buf : List ℕ) (piece : IsPiece e t from to (take size buf)) (room : size ≤ length buf)
+module _ (e : Encoding) (t : List ℕ) (from to size : ℕ) (buf : List ℕ) (piece : IsPiece (all_of e t) from to (take size buf)) (room : size ≤ length buf)
     (most : to < start (width_in e) t (length t) → 64 < size + len_utf8 (slice_index t (down (width_in e) t to))) where
   last : ℕ
   last = down (width_in e) t to
@@ -67,9 +68,9 @@ module _ (e : Encoding) (t : List ℕ) (from to size : ℕ) (buf : List ℕ) (pi
 -- both pieces with a text between them
 module _ (now seen : Meaning) (same : seen ≡ now) (high l h : ℕ) (with : List ℕ) (is : h ≡ start len_utf8 (now.text) (number now high))
     (order : l ≤ h) (inside : h ≤ length (utf8 (now.text))) (few : length (splice (utf8 (now.text)) l h with) ≤ 15)
-    (to size : ℕ) (buf : List ℕ) (piece : IsPiece (storage_of (now.row)) (now.text) 0 to (take size buf)) (room : size ≤ length buf)
+    (to size : ℕ) (buf : List ℕ) (piece : IsPiece (own_part now) 0 to (take size buf)) (room : size ≤ length buf)
     (most : to < start (width_in (storage_of (now.row))) (now.text) (length (now.text)) → 64 < size + len_utf8 (slice_index (now.text) (number now to)))
-    (to-2 size-2 : ℕ) (buf-2 : List ℕ) (piece-2 : IsPiece (storage_of (seen.row)) (seen.text) high to-2 (take size-2 buf-2)) (room-2 : size-2 ≤ length buf-2)
+    (to-2 size-2 : ℕ) (buf-2 : List ℕ) (piece-2 : IsPiece (own_part seen) high to-2 (take size-2 buf-2)) (room-2 : size-2 ≤ length buf-2)
     (most-2 : to-2 < start (width_in (storage_of (seen.row))) (seen.text) (length (seen.text))
     → 64 < size-2 + len_utf8 (slice_index (seen.text) (number seen to-2))) where
   long : length (splice (utf8 (now.text)) l h with) ≡ length (utf8 (now.text)) - (h - l) + length with
@@ -80,7 +81,7 @@ module _ (now seen : Meaning) (same : seen ≡ now) (high l h : ℕ) (with : Lis
       let front = (piece-front (storage_of (now.row)) (now.text) 0 to size buf piece room most l refl (omega arith) (omega (arith, few, long))).1 in
       let back =
       piece-back (storage_of (now.row)) (now.text) high to-2 size-2 buf-2
-      (subst (λ m. IsPiece (storage_of (m.row)) (m.text) high to-2 (take size-2 buf-2)) same piece-2) room-2
+      (subst (λ m. IsPiece (own_part m) high to-2 (take size-2 buf-2)) same piece-2) room-2
       (subst (λ m. to-2 < start (width_in (storage_of (m.row))) (m.text) (length (m.text)) → 64 < size-2 + len_utf8 (slice_index (m.text) (number m to-2))) same most-2)
       h is (omega (arith, few, long)) in
       ap (λ x. x ++ (with ++ take size-2 buf-2)) front ∙ ap (λ x. take l (utf8 (now.text)) ++ (with ++ x)) back

@@ -7,6 +7,7 @@ use Rattle.text_spec.specs.Editing.{replaced}
 use Rattle.text_spec.specs.Offsets.{down}
 use Rattle.text_spec.specs.Views.{width_in, part}
 use Rattle.object_words.specs.Rows.{Row, small, native, literal, foreign, owned, is_ascii}
+use Rattle.word_units.specs.Parts.{Part, all_of}
 use Rattle.object_words.specs.declared.layout.TheConstants.{SMALL_CAPACITY}
 
 pub record Meaning : Type 0 where
@@ -24,6 +25,10 @@ storage_of (native ascii nfc count slot) = Utf8
 storage_of (literal ascii nfc count number) = Utf8
 storage_of (foreign ascii count slot) = Utf16
 storage_of (owned utf16 ascii nfc count) = if utf16 then Utf16 else Utf8
+
+-- the text as all of what the storage holds
+abbrev pub own_part : Meaning → Part
+own_part s = all_of (storage_of s.row) s.text
 
 -- the text between two places of the storage, which are scalar boundaries in its code units
 abbrev pub text_between : Meaning → ℕ → ℕ → List ℕ

@@ -13,19 +13,13 @@ use word_units::{Steps, Text, byte_word, unit_word};
 
 /// All of the storage is the text. Its breadcrumbs are never known: no shared storage is built yet.
 impl<'h> Text for Str<'h> {
-    ghost use Rattle.std.specs.Prelude.{false, length};
+    ghost use Rattle.std.specs.Prelude.{false};
     ghost use Rattle.object_words.specs.Rows.{ascii_of};
-    ghost use Rattle.str_value.specs.Meaning.{storage_of};
+    ghost use Rattle.str_value.specs.Meaning.{own_part};
 
-    ghost storage = { λ s. storage_of s.row };
+    ghost part = { own_part };
 
     ghost words = { λ s. s.words };
-
-    ghost whole = { λ s. s.text };
-
-    ghost first = { λ s. 0 };
-
-    ghost end = { λ s. length s.text };
 
     ghost knows_crumbs = { λ s. false };
 

@@ -1,4 +1,5 @@
 use Rattle.std.proofs.Common.{◌≡◌, ap, ◌∙◌, ◌+◌, ◌-◌, ◌<◌, arith}
+use Rattle.word_units.specs.Parts.{part_of}
 use Rattle.char_view.specs.Answers.{character_position}
 use Rattle.char_view.proofs.Indexing.{index_is}
 use Rattle.char_view.proofs.characters.before.Goals as goal
@@ -12,16 +13,16 @@ index_between-requires-clause-order g c = let span = c.in-Ok.ensures.span in spa
 pub returns-clause-previous : goal.returns-clause-previous
 returns-clause-previous g c =
     let span = c.in-Ok.ensures.span in
-    let e = g.T.Text.storage c.args.t.now in
-    let b = g.T.Text.whole c.args.t.now in
-    let first = g.T.Text.first c.args.t.now in
-    let end = g.T.Text.end c.args.t.now in
+    let e = (g.T.Text.part c.args.t.now).storage in
+    let b = (g.T.Text.part c.args.t.now).whole in
+    let first = (g.T.Text.part c.args.t.now).first in
+    let end = (g.T.Text.part c.args.t.now).end in
     let n = c.in-Ok.found.0.number in
     let some : 0 < n = omega (arith, c.if-span-eq0.false) in
     let back : n ≡ n - 1 + 1 = omega (arith, some) in (
       n,
       c.in-Ok.ensures.offset,
       some,
-      index_is c.encoding.result e b first end (n - 1) _ _ c.index_between.result (c.encoding.ensures ∙ ap g.T.Text.storage c.span_of.ensures.kept) (span.previous some)
-          (span.from ∙ ap (character_position e b first end) back) c.index_between.ensures,
+      index_is c.encoding.result e b first end (n - 1) _ _ c.index_between.result (c.encoding.ensures ∙ ap (λ t. (g.T.Text.part t).storage) c.span_of.ensures.kept) (span.previous some)
+          (span.from ∙ ap (character_position (part_of e b first end)) back) c.index_between.ensures,
     )

@@ -1,5 +1,7 @@
-use Rattle.std.proofs.Common.{◌≡◌, subst, Some, arith, to_z-of_z}
+use Rattle.std.proofs.Common.{◌≡◌, inr, subst, Some, arith, to_z-of_z}
 use Rattle.std.proofs.lemmas.Int.{ints}
+use Rattle.rounding.specs.Refusals.{IsOutOfRange}
+use Rattle.rounding.proofs.Places.{mapped_some}
 use Rattle.char_view.specs.Answers.{character_offset}
 use Rattle.char_view.proofs.characters.distance.Goals as goal
 
@@ -9,7 +11,13 @@ returns-clause-characters g c =
       c.in-Ok.found.0.number,
       c.in-Ok-span_of.found.0.number,
       c.in-Ok.ensures.offset,
-      subst (λ t. character_offset (g.T.Text.storage t) (g.T.Text.whole t) (g.T.Text.first t) (g.T.Text.end t) c.args.to ≡ Some c.in-Ok-span_of.found.0.number)
+      subst (λ t. character_offset (g.T.Text.part t) c.args.to ≡ Some c.in-Ok-span_of.found.0.number)
           c.span_of.ensures.kept c.in-Ok-span_of.ensures.offset,
       grind (arith, ints, to_z-of_z),
     )
+
+pub returns-in-Err-span_of-clause-refused : goal.returns-in-Err-span_of-clause-refused
+returns-in-Err-span_of-clause-refused g c =
+    let number = mapped_some _ _ _ c.in-Ok.ensures.offset in
+    let first = mapped_some _ _ _ number.1 in
+    inr (first.0, first.1, subst (λ t. IsOutOfRange (g.T.Text.part t) c.args.to c.in-Err-span_of.out) c.span_of.ensures.kept c.in-Err-span_of.ensures.refused)

@@ -30,9 +30,9 @@ together a b c p q =
     }
 
 piece_before_of : (g : Over) (old text : g.row.T.Denot) (piece : _) → text ≡ old
-    → IsPieceOf (own_bytes (g.T.Text.whole text) (g.T.Text.first text) (g.T.Text.end text)) piece
-    → IsPieceOf (own_bytes (g.T.Text.whole old) (g.T.Text.first old) (g.T.Text.end old)) piece
-piece_before_of g old text piece same p = subst (λ t. IsPieceOf (own_bytes (g.T.Text.whole t) (g.T.Text.first t) (g.T.Text.end t)) piece) same p
+    → IsPieceOf (own_bytes (g.T.Text.part text)) piece
+    → IsPieceOf (own_bytes (g.T.Text.part old)) piece
+piece_before_of g old text piece same p = subst (λ t. IsPieceOf (own_bytes (g.T.Text.part t)) piece) same p
 
 pub provide_context-requires : goal.provide_context-requires
 provide_context-requires g c =
@@ -42,25 +42,25 @@ provide_context-requires g c =
     let open_ = undecided (cursor_has_decided c.context.cursor) told.decided in
     let end : c.in-Err-PreContext.field-0-0 ≡ c.context.back.offset =
     asks.in_place told.place.offset ∙ ap (unwrap_or (cursor_awaits c.context.cursor)) c.requires.begins ∙ i.awaits open_ in
-    let long : length c.text_in-in-Err-PreContext.result.now ≡ c.piece_before.result.0.size =
-    ap length c.text_in-in-Err-PreContext.ensures ∙ c.piece_before.ensures.piece.long in
-    let sum : c.in-Err-PreContext.field-0-0 ≡ c.piece_before.result.0.offset + length c.text_in-in-Err-PreContext.result.now = omega (arith, end, long, c.piece_before.ensures.end) in
+    let long : length c.piece_text-in-Err-PreContext.result.now ≡ c.piece_before.result.0.size =
+    ap length c.piece_text-in-Err-PreContext.ensures ∙ c.piece_before.ensures.piece.long in
+    let sum : c.in-Err-PreContext.field-0-0 ≡ c.piece_before.result.0.offset + length c.piece_text-in-Err-PreContext.result.now = omega (arith, end, long, c.piece_before.ensures.end) in
     asks.awaits ∙ ap Some sum
 
 pub context-smaller : goal.context-smaller
 context-smaller g c =
     let i = c.context.invariant in
-    let own = own_bytes (g.T.Text.whole c.args.t.now) (g.T.Text.first c.args.t.now) (g.T.Text.end c.args.t.now) in
+    let own = own_bytes (g.T.Text.part c.args.t.now) in
     let told = c.in-Err-PreContext.ensures in
     let is_at = ap Err c.in-Err-PreContext.field-0-is in
     let asks = told.pre_context c.in-Err-PreContext.field-0-0 is_at in
     let open_ = undecided (cursor_has_decided c.context.cursor) told.decided in
-    let chunk = subst (λ p. IsChunkOf own p c.args.piece.now.offset) (sym c.text_in.ensures) c.requires.piece.chunk in
+    let chunk = subst (λ p. IsChunkOf own p c.args.piece.now.offset) (sym c.piece_text.ensures) c.requires.piece.chunk in
     let some = told.pre_context_inside own i.on chunk c.in-Err-PreContext.field-0-0 is_at in
     let end : c.in-Err-PreContext.field-0-0 ≡ c.context.back.offset =
     asks.in_place told.place.offset ∙ ap (unwrap_or (cursor_awaits c.context.cursor)) c.requires.begins ∙ i.awaits open_ in
     let before = piece_before_of g c.args.t.now c.context.t c.piece_before.result.0 i.same c.piece_before.ensures.piece in
-    let context = subst (λ p. IsChunkOf own p c.piece_before.result.0.offset) (sym c.text_in-in-Err-PreContext.ensures) before.chunk in
+    let context = subst (λ p. IsChunkOf own p c.piece_before.result.0.offset) (sym c.piece_text-in-Err-PreContext.ensures) before.chunk in
     let given = c.provide_context.ensures.on own (told.on own i.on chunk) context in
     let size = c.piece_before.ensures.some (omega (arith, some, end)) in
     smaller (cursor_has_decided c.provide_context.new.self) (cursor_has_decided c.context.cursor) _ _ open_
@@ -73,17 +73,17 @@ context-smaller g c =
 pub context-preserved : goal.context-preserved
 context-preserved g c =
     let i = c.context.invariant in
-    let own = own_bytes (g.T.Text.whole c.args.t.now) (g.T.Text.first c.args.t.now) (g.T.Text.end c.args.t.now) in
+    let own = own_bytes (g.T.Text.part c.args.t.now) in
     let told = c.in-Err-PreContext.ensures in
-    let chunk = subst (λ p. IsChunkOf own p c.args.piece.now.offset) (sym c.text_in.ensures) c.requires.piece.chunk in
+    let chunk = subst (λ p. IsChunkOf own p c.args.piece.now.offset) (sym c.piece_text.ensures) c.requires.piece.chunk in
     let before = piece_before_of g c.args.t.now c.context.t c.piece_before.result.0 i.same c.piece_before.ensures.piece in
-    let context = subst (λ p. IsChunkOf own p c.piece_before.result.0.offset) (sym c.text_in-in-Err-PreContext.ensures) before.chunk in
+    let context = subst (λ p. IsChunkOf own p c.piece_before.result.0.offset) (sym c.piece_text-in-Err-PreContext.ensures) before.chunk in
     let given = c.provide_context.ensures.on own (told.on own i.on chunk) context in
     record {
       same = c.piece_before.ensures.kept ∙ i.same;
       on = given.0;
       kept = together c.args.cursor.now c.is_boundary.new.self c.provide_context.new.self (together c.args.cursor.now c.context.cursor c.is_boundary.new.self i.kept told.place) c.provide_context.ensures.place;
-      place = subst (λ t. IsPlace (g.T.Text.storage t) (g.T.Text.whole t) (g.T.Text.first t) (g.T.Text.end t) c.piece_before.result.1.offset c.piece_before.result.1.position) i.same c.piece_before.ensures.place;
+      place = subst (λ t. IsPlace (g.T.Text.part t) c.piece_before.result.1.offset c.piece_before.result.1.position) i.same c.piece_before.ensures.place;
       awaits = λ no.
           ⊎_elim (λ (yes : IsTrue (cursor_has_decided c.provide_context.new.self)). absurd (apart (cursor_has_decided c.provide_context.new.self) no yes))
           (λ more. ap (λ o. unwrap_or o c.args.at.offset) more.1 ∙ sym c.piece_before.ensures.offset) given.1;

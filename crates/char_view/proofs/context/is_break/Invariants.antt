@@ -8,9 +8,9 @@ use Rattle.char_view.proofs.context.is_break.Given as goal
 abbrev pub invariant-context : goal.invariant-context
 invariant-context g l = record {
   same : l.t ≡ l.fn.t;
-  on : IsCursorOn l.cursor (own_bytes (g.T.Text.whole l.fn.t) (g.T.Text.first l.fn.t) (g.T.Text.end l.fn.t));
+  on : IsCursorOn l.cursor (own_bytes (g.T.Text.part l.fn.t));
   kept : KeepsPlace l.fn.cursor l.cursor;
-  place : IsPlace (g.T.Text.storage l.fn.t) (g.T.Text.whole l.fn.t) (g.T.Text.first l.fn.t) (g.T.Text.end l.fn.t) l.back.offset l.back.position;
+  place : IsPlace (g.T.Text.part l.fn.t) l.back.offset l.back.position;
   awaits : cursor_has_decided l.cursor ≡ false → unwrap_or (cursor_awaits l.cursor) l.fn.at.offset ≡ l.back.offset;
 }
 

@@ -15,7 +15,7 @@ returns-clause-piece g c =
     let filled = c.fill_forward-size.ensures in
     let cut = cut_of _ _ _ _ _ _ _ place.text filled.piece place.low filled.within in
     record {
-      chunk = subst (IsChunkOf (own_bytes (g.T.Text.whole c.args.t.now) (g.T.Text.first c.args.t.now) (g.T.Text.end c.args.t.now)) _) (sym place.offset_is) cut.chunk;
+      chunk = subst (IsChunkOf (own_bytes (g.T.Text.part c.args.t.now)) _) (sym place.offset_is) cut.chunk;
       utf8 = cut.utf8;
       fits = filled.fits;
       long = omega (arith, filled.piece.size, filled.size);
@@ -27,8 +27,8 @@ returns-clause-some g c = λ inside.
     let filled = c.fill_forward-size.ensures in
     let r = c.fill_forward-size.result in
     let cut = cut_of _ _ _ _ _ _ _ place.text filled.piece place.low filled.within in
-    let high = start (width_in (g.T.Text.storage c.args.t.now)) (g.T.Text.whole c.args.t.now) (g.T.Text.end c.args.t.now) in
+    let high = start (width_in (g.T.Text.part c.args.t.now).storage) (g.T.Text.part c.args.t.now).whole (g.T.Text.part c.args.t.now).end in
     ⊎_elim
     (λ (h : r.1 < high).
-    omega (arith, filled.most h, len_utf8_bounds (slice_index (g.T.Text.whole c.args.t.now) (down (width_in (g.T.Text.storage c.args.t.now)) (g.T.Text.whole c.args.t.now) r.1))))
+    omega (arith, filled.most h, len_utf8_bounds (slice_index (g.T.Text.part c.args.t.now).whole (down (width_in (g.T.Text.part c.args.t.now).storage) (g.T.Text.part c.args.t.now).whole r.1))))
     (λ (h : high ≤ r.1). omega (arith, cut.end_place.is_end (omega (arith, h, filled.within)), cut.sum, place.offset_is, inside, filled.piece.size, filled.size)) (cases_lt r.1 high)

@@ -12,9 +12,9 @@ returns-clause-text g c =
 
 pub returns-clause-place : goal.returns-clause-place
 returns-clause-place g c =
-    let e = g.T.Text.storage c.args.t.now in
-    let b = g.T.Text.whole c.args.t.now in
-    let first = g.T.Text.first c.args.t.now in
+    let e = (g.T.Text.part c.args.t.now).storage in
+    let b = (g.T.Text.part c.args.t.now).whole in
+    let first = (g.T.Text.part c.args.t.now).first in
     let none = ap (start (width_in e) b) {x = first} {y = first + 0} (omega arith) in
-    place_of e b first (g.T.Text.end c.args.t.now) 0 _ _ (returns-clause-text g c) (omega (arith, c.low.ensures.order))
-    (sym (start-zero len_utf8 (part b first (g.T.Text.end c.args.t.now)))) (c.low.ensures.value ∙ none)
+    place_of e b first (g.T.Text.part c.args.t.now).end 0 _ _ (returns-clause-text g c) (omega (arith, c.low.ensures.order))
+    (sym (start-zero len_utf8 (part b first (g.T.Text.part c.args.t.now).end))) (c.low.ensures.value ∙ none)

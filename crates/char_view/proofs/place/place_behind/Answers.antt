@@ -6,7 +6,7 @@ use Rattle.char_view.proofs.place.place_behind.Goals as goal
 
 pub scalar_at-scalar-requires-clause-inside : goal.scalar_at-scalar-requires-clause-inside
 scalar_at-scalar-requires-clause-inside g c =
-    omega (arith, c.requires.inside, start-le (width_in (g.T.Text.storage c.args.t.now)) (g.T.Text.whole c.args.t.now) (g.T.Text.end c.args.t.now))
+    omega (arith, c.requires.inside, start-le (width_in (g.T.Text.part c.args.t.now).storage) (g.T.Text.part c.args.t.now).whole (g.T.Text.part c.args.t.now).end)
 
 pub returns-clause-place : goal.returns-clause-place
 returns-clause-place g c =

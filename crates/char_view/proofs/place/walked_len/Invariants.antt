@@ -5,7 +5,7 @@ use Rattle.char_view.proofs.place.walked_len.Given as goal
 abbrev pub invariant-scalars : goal.invariant-scalars
 invariant-scalars g l = record {
   same : l.t ≡ l.fn.t;
-  place : IsPlace (g.T.Text.storage l.fn.t) (g.T.Text.whole l.fn.t) (g.T.Text.first l.fn.t) (g.T.Text.end l.fn.t) l.at.offset l.at.position;
+  place : IsPlace (g.T.Text.part l.fn.t) l.at.offset l.at.position;
 }
 
 abbrev pub decreases-scalars : goal.decreases-scalars

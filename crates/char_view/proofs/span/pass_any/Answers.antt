@@ -6,10 +6,10 @@ use Rattle.char_view.proofs.span.pass_any.Goals as goal
 
 pub returns-then-walk-high-clause-position : goal.returns-then-walk-high-clause-position
 returns-then-walk-high-clause-position g c =
-    let e = g.T.Text.storage c.args.t.now in
-    let b = g.T.Text.whole c.args.t.now in
-    let first = g.T.Text.first c.args.t.now in
-    let end = g.T.Text.end c.args.t.now in
+    let e = (g.T.Text.part c.args.t.now).storage in
+    let b = (g.T.Text.part c.args.t.now).whole in
+    let first = (g.T.Text.part c.args.t.now).first in
+    let end = (g.T.Text.part c.args.t.now).end in
     let walk = c.requires.walk in
     let last = last_number e b first end _ _ _ walk.place walk.passed walk.within (omega (arith, c.if-walk-high.true, c.high-high.ensures.value)) in
     let at : c.args.walk.now.at.position ≡ start (width_in e) b end = omega (arith, c.if-walk-high.true, c.high-high.ensures.value, walk.place.high) in
@@ -18,7 +18,7 @@ returns-then-walk-high-clause-position g c =
 pub returns-then-walk-high-clause-last : goal.returns-then-walk-high-clause-last
 returns-then-walk-high-clause-last g c = λ _.
     let walk = c.requires.walk in (
-      last_number (g.T.Text.storage c.args.t.now) (g.T.Text.whole c.args.t.now) (g.T.Text.first c.args.t.now) (g.T.Text.end c.args.t.now) _ _ _ walk.place walk.passed walk.within
+      last_number (g.T.Text.part c.args.t.now).storage (g.T.Text.part c.args.t.now).whole (g.T.Text.part c.args.t.now).first (g.T.Text.part c.args.t.now).end _ _ _ walk.place walk.passed walk.within
           (omega (arith, c.if-walk-high.true, c.high-high.ensures.value)),
       refl,
     )

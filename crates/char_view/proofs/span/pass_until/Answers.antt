@@ -13,7 +13,7 @@ returns-clause-past g c = λ differs.
     (cases_lt c.characters.walk.number c.args.number) in
     ⊎_elim (λ (h : c.characters.walk.at.position < c.high-high.result). absurd (stopped (fewer, h)))
     (λ (h : c.high-high.result ≤ c.characters.walk.at.position).
-    let last = last_number (g.T.Text.storage c.args.t.now) (g.T.Text.whole c.args.t.now) (g.T.Text.first c.args.t.now) (g.T.Text.end c.args.t.now) _ _ _ walk.place walk.passed walk.within
+    let last = last_number (g.T.Text.part c.args.t.now).storage (g.T.Text.part c.args.t.now).whole (g.T.Text.part c.args.t.now).first (g.T.Text.part c.args.t.now).end _ _ _ walk.place walk.passed walk.within
     (omega (arith, h, c.high-high.ensures.value)) in
     omega (arith, last, fewer))
     (cases_lt c.characters.walk.at.position c.high-high.result)

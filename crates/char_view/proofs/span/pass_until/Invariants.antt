@@ -5,7 +5,7 @@ use Rattle.char_view.proofs.span.pass_until.Given as goal
 abbrev pub invariant-characters : goal.invariant-characters
 invariant-characters g l = record {
   same : l.t ≡ l.fn.t;
-  walk : IsWalk (g.T.Text.storage l.fn.t) (g.T.Text.whole l.fn.t) (g.T.Text.first l.fn.t) (g.T.Text.end l.fn.t) l.walk;
+  walk : IsWalk (g.T.Text.part l.fn.t) l.walk;
   before : l.walk.number ≤ l.number;
 }
 

@@ -5,10 +5,10 @@ use Rattle.char_view.proofs.span.span_at.Goals as goal
 
 pub returns-clause-number : goal.returns-clause-number
 returns-clause-number g c =
-    let e = g.T.Text.storage c.args.t.now in
-    let b = g.T.Text.whole c.args.t.now in
-    let first = g.T.Text.first c.args.t.now in
-    let end = g.T.Text.end c.args.t.now in
+    let e = (g.T.Text.part c.args.t.now).storage in
+    let b = (g.T.Text.part c.args.t.now).whole in
+    let first = (g.T.Text.part c.args.t.now).first in
+    let end = (g.T.Text.part c.args.t.now).end in
     let l = c.characters in
     let i = l.invariant in
     let stopped = iff_false c.ends_by.ensures c.characters-test.false in

@@ -25,15 +25,15 @@ pub pieces-preserved : goal.pieces-preserved
 pieces-preserved g c =
     let i = c.pieces.invariant in
     let next = c.further-next in
-    let own = own_bytes (g.T.Text.whole c.args.t.now) (g.T.Text.first c.args.t.now) (g.T.Text.end c.args.t.now) in
+    let own = own_bytes (g.T.Text.part c.args.t.now) in
     let same = c.piece_from.ensures.kept ∙ next.ensures.kept ∙ i.same in
-    let place = subst (λ t. IsPlace (g.T.Text.storage t) (g.T.Text.whole t) (g.T.Text.first t) (g.T.Text.end t) next.result.offset next.result.position) i.same next.ensures.place in
-    let passed = subst (λ t. HasNone (own_bytes (g.T.Text.whole t) (g.T.Text.first t) (g.T.Text.end t)) (c.pieces.place.offset + 1) next.result.offset) i.same next.ensures.passed in
+    let place = subst (λ t. IsPlace (g.T.Text.part t) next.result.offset next.result.position) i.same next.ensures.place in
+    let passed = subst (λ t. HasNone (own_bytes (g.T.Text.part t)) (c.pieces.place.offset + 1) next.result.offset) i.same next.ensures.passed in
     let here : breaks own next.result.offset ≡ false =
-    sym (subst (λ t. c.stops.result ≡ breaks (own_bytes (g.T.Text.whole t) (g.T.Text.first t) (g.T.Text.end t)) next.result.offset) same c.stops.ensures.value) ∙ c.if-stops.false in
+    sym (subst (λ t. c.stops.result ≡ breaks (own_bytes (g.T.Text.part t)) next.result.offset) same c.stops.ensures.value) ∙ c.if-stops.false in
     record {
       same = c.stops.ensures.kept ∙ same;
-      on = subst (λ t. IsCursorOn c.stops.new.cursor (own_bytes (g.T.Text.whole t) (g.T.Text.first t) (g.T.Text.end t))) same c.stops.ensures.on;
+      on = subst (λ t. IsCursorOn c.stops.new.cursor (own_bytes (g.T.Text.part t))) same c.stops.ensures.on;
       offset = c.stops.ensures.offset;
       extended = c.stops.ensures.extended;
       place = place;
@@ -49,5 +49,5 @@ pieces-preserved g c =
           ⊎_elim (λ (l : k < next.result.offset). passed k h l cut)
           (λ (l : next.result.offset ≤ k). let is : k ≡ next.result.offset = omega (arith, l, high) in ap (breaks own) is ∙ here) (cases_lt k next.result.offset))
           (cases_lt k (c.pieces.place.offset + 1));
-      piece = subst (λ t. IsPieceOf (own_bytes (g.T.Text.whole t) (g.T.Text.first t) (g.T.Text.end t)) c.piece_from.result) (next.ensures.kept ∙ i.same) c.piece_from.ensures.piece;
+      piece = subst (λ t. IsPieceOf (own_bytes (g.T.Text.part t)) c.piece_from.result) (next.ensures.kept ∙ i.same) c.piece_from.ensures.piece;
     }

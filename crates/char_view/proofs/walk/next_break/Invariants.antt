@@ -7,13 +7,13 @@ use Rattle.char_view.proofs.walk.next_break.Given as goal
 -- the cursor stands at the place, up to which there is no boundary
 abbrev pub invariant-pieces : goal.invariant-pieces
 invariant-pieces g l =
-    let own = own_bytes (g.T.Text.whole l.fn.t) (g.T.Text.first l.fn.t) (g.T.Text.end l.fn.t) in
+    let own = own_bytes (g.T.Text.part l.fn.t) in
     record {
       same : l.t ≡ l.fn.t;
       on : IsCursorOn l.cursor own;
       offset : cursor_offset l.cursor ≡ l.place.offset;
       extended : cursor_is_extended l.cursor ≡ true;
-      place : IsPlace (g.T.Text.storage l.fn.t) (g.T.Text.whole l.fn.t) (g.T.Text.first l.fn.t) (g.T.Text.end l.fn.t) l.place.offset l.place.position;
+      place : IsPlace (g.T.Text.part l.fn.t) l.place.offset l.place.position;
       ahead : l.fn.at.offset ≤ l.place.offset;
       inside : l.place.offset < l.fn.len;
       fresh : l.place.offset ≡ l.fn.at.offset → cursor_is_resuming l.cursor ≡ false;

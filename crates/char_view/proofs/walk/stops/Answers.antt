@@ -6,10 +6,10 @@ use Rattle.char_view.proofs.walk.stops.Goals as goal
 
 pub returns-then-at-len-clause-value : goal.returns-then-at-len-clause-value
 returns-then-at-len-clause-value g c =
-    breaks_at-end true (own_bytes (g.T.Text.whole c.args.t.now) (g.T.Text.first c.args.t.now) (g.T.Text.end c.args.t.now)) c.args.at.offset (c.if-at-len.true ∙ c.requires.len)
+    breaks_at-end true (own_bytes (g.T.Text.part c.args.t.now)) c.args.at.offset (c.if-at-len.true ∙ c.requires.len)
 
 pub returns-in-Ok-clause-on : goal.returns-in-Ok-clause-on
 returns-in-Ok-clause-on g c =
-    let own = own_bytes (g.T.Text.whole c.args.t.now) (g.T.Text.first c.args.t.now) (g.T.Text.end c.args.t.now) in
-    let chunk = subst (λ p. IsChunkOf own p c.args.piece.now.offset) (sym c.text_in.ensures) c.requires.piece.chunk in
+    let own = own_bytes (g.T.Text.part c.args.t.now) in
+    let chunk = subst (λ p. IsChunkOf own p c.args.piece.now.offset) (sym c.piece_text.ensures) c.requires.piece.chunk in
     c.is_boundary.ensures.on own (c.set_cursor.ensures.on own c.requires.on c.requires.place.cut) chunk
