@@ -16,9 +16,10 @@ use Rattle.text_spec.specs.Boundaries.{IsScalarBoundary}
 use Rattle.text_spec.specs.Offsets.{down}
 use Rattle.text_spec.specs.Views.{width_in}
 use Rattle.text_spec.proofs.Walk.{start-mono}
-use Rattle.str_value.specs.Meaning.{Meaning, storage_of}
+use Rattle.str_value.specs.Meaning.{Meaning, storage_of, own_part}
 use Rattle.str_value.proofs.Parts.{down-mono}
-use Rattle.edit_cow.specs.Edits.{scalar_of, within_limit, rewritten, rewritten_between, in_order, after_first, after_second, edited, appended, refusal_of}
+use Rattle.rounding.specs.Refusals.{scalar_of}
+use Rattle.edit_cow.specs.Edits.{within_limit, rewritten, rewritten_between, in_order, after_first, after_second, edited, appended, refusal_of}
 
 fits : (text : List ℕ) → length (utf8 text) ≤ 16777216 → within_limit text ≡ Ok text
 fits text few = ap (λ long. if long then Err (refusal.TooLong (length (utf8 text))) else Ok text) (le-ltb 16777216 (length (utf8 text)) few)
@@ -56,10 +57,10 @@ module _ (now : Meaning) (a b : ℕ) (with : List ℕ) (from to : ℕ) where
   abbrev pub number : ℕ → ℕ
   number p = down (width_in (storage_of (now.row))) (now.text) p
 
-  both : scalar_of now a ≡ Some (number from) → scalar_of now b ≡ Some (number to) → edited now a b with ≡ in_order (now.text) a b with (number from) (number to)
+  both : scalar_of (own_part now) a ≡ Some (number from) → scalar_of (own_part now) b ≡ Some (number to) → edited now a b with ≡ in_order (now.text) a b with (number from) (number to)
   both first second = ap (after_first now a b with) first ∙ ap (after_second now a b with (number from)) second
 
-  module _ (first : scalar_of now a ≡ Some (number from)) (second : scalar_of now b ≡ Some (number to)) where
+  module _ (first : scalar_of (own_part now) a ≡ Some (number from)) (second : scalar_of (own_part now) b ≡ Some (number to)) where
     pub reversed : IsScalarBoundary (width_in (storage_of (now.row))) (now.text) from → IsScalarBoundary (width_in (storage_of (now.row))) (now.text) to
         → to < from → edited now a b with ≡ Err (refusal.Reversed a b)
     reversed f t h =

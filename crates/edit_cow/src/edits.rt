@@ -1,26 +1,24 @@
 //! The three calls.
-ghost use Rattle.std.specs.Prelude.{◌≡◌, ℕ, ◌+◌, ◌*◌, ◌<◌, ◌≤◌, ◌⊎◌, false, List, length, Some, None, OnOk, OnErr, IfOk, IfErr};
+ghost use Rattle.std.specs.Prelude.{◌≡◌, ℕ, ◌+◌, ◌*◌, ◌<◌, ◌≤◌, ◌⊎◌, false, List, length, OnOk, OnErr, IfOk, IfErr};
 ghost use Rattle.text_spec.specs.declared.encoding.Encoding.TheVariants.{Utf16};
-ghost use Rattle.text_spec.specs.Boundaries.{IsScalarBoundary};
-ghost use Rattle.text_spec.specs.Offsets.{down};
 ghost use Rattle.text_spec.specs.Text.{utf8};
-ghost use Rattle.text_spec.specs.Views.{width_in};
 ghost use Rattle.rounding.specs.Resolving.{reads_other};
 ghost use Rattle.object_words.specs.declared.layout.TheConstants.{SMALL_CAPACITY};
-ghost use Rattle.str_value.specs.Meaning.{storage_of, utf8_row};
+ghost use Rattle.word_units.specs.Parts.{IsBoundaryIn};
+ghost use Rattle.str_value.specs.Meaning.{storage_of, own_part, utf8_row};
 ghost use Rattle.edit_cow.specs.declared.error.EditError.{EditError};
 ghost use Rattle.edit_cow.specs.declared.error.EditError.TheVariants as refusal;
-ghost use Rattle.edit_cow.specs.Edits.{scalar_of, out_of_range, rewritten_between, edited, appended, wrote_of};
+ghost use Rattle.edit_cow.specs.Edits.{rewritten_between, edited, appended, wrote_of};
 
 use crate::error::EditError;
 use crate::wrote::Wrote;
 use index_words::Index;
 use object_words::Form;
-use rounding::resolve;
+use rounding::scalar_boundary;
 use std::alloc::Global;
 use std::sync::ledger::Ledger;
 use str_value::{Pass, Str};
-use word_units::{OutOfBounds, Steps, Text, boundary_at_or_before};
+use word_units::{Steps, Text};
 
 /// Puts the text whose UTF-8 is `with` in place of the text between two indices, each resolved on the value and rounded down to a
 /// scalar boundary.
@@ -56,8 +54,8 @@ pub fn replace<'h, L: Ledger>(
     ensures cost { steps.new ≤ steps.old + 4 * length s.old.text + 264 }
     ensures near { reads_other (storage_of s.old.row) a ≡ false → reads_other (storage_of s.old.row) b ≡ false → steps.new ≤ steps.old + 264 }
 {
-    let from = boundary_of(s, a, steps)?;
-    let to = boundary_of(s, b, steps)?;
+    let from = scalar_boundary(s, a, steps)?;
+    let to = scalar_boundary(s, b, steps)?;
     if to < from {
         return Err(EditError::Reversed { a, b });
     }
@@ -107,24 +105,6 @@ pub fn reserve<'h>(s: &mut Str<'h>, pass: &mut Pass<'h>) -> bool
     false
 }
 
-// Where the scalar stands in the storage that an index is rounded down to, in code units of the storage.
-fn boundary_of<'h, L: Ledger>(
-    s: &mut Str<'h>,
-    i: Index,
-    steps: &mut Steps<L>,
-) -> Result<u64, OutOfBounds>
-    ensures number { IfOk result (λ p. scalar_of s.old i ≡ Some (down (width_in (storage_of s.old.row)) s.old.text p)) }
-    ensures boundary { IfOk result (λ p. IsScalarBoundary (width_in (storage_of s.old.row)) s.old.text p) }
-    ensures refused { IfErr result (λ out. scalar_of s.old i ≡ None) }
-    ensures carries { IfErr result (λ out. out ≡ out_of_range s.old i) }
-    ensures kept { s.new ≡ s.old }
-    ensures cost { steps.new ≤ steps.old + 2 * length s.old.text + 2 }
-    ensures near { reads_other (storage_of s.old.row) i ≡ false → steps.new ≤ steps.old + 2 }
-{
-    let index = resolve(s, i, steps)?;
-    Ok(boundary_at_or_before(s, index.position(), steps))
-}
-
 // Puts bytes in place of the text between two scalar boundaries of the storage.
 fn rewrite<'h, L: Ledger>(
     alloc: Global,
@@ -135,8 +115,8 @@ fn rewrite<'h, L: Ledger>(
     with: &[u8],
     steps: &mut Steps<L>,
 ) -> Result<Wrote, EditError>
-    requires low { IsScalarBoundary (width_in (storage_of s.old.row)) s.old.text low }
-    requires high { IsScalarBoundary (width_in (storage_of s.old.row)) s.old.text high }
+    requires low { IsBoundaryIn (own_part s.old) low }
+    requires high { IsBoundaryIn (own_part s.old) high }
     requires order { low ≤ high }
     ensures text { OnOk result (rewritten_between s.old low high with.now ≡ Ok s.new.text) }
     ensures row { OnOk result (s.new.row ≡ utf8_row (utf8 s.new.text)) }

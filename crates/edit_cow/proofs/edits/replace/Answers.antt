@@ -1,12 +1,11 @@
 use Rattle.std.proofs.Common.{◌≡◌, sym, ap, subst, ◌∙◌, ◌⊎◌, inr, ◌<◌, length, OnOk, IfErr, Some, Ok, Err}
 use Rattle.text_spec.specs.declared.encoding.Encoding.TheVariants.{Utf16}
-use Rattle.text_spec.specs.Boundaries.{IsScalarBoundary}
-use Rattle.text_spec.specs.Offsets.{down}
 use Rattle.text_spec.specs.Text.{utf8}
-use Rattle.text_spec.specs.Views.{width_in}
-use Rattle.str_value.specs.Meaning.{storage_of}
+use Rattle.str_value.specs.Meaning.{storage_of, own_part}
+use Rattle.word_units.specs.Parts.{IsBoundaryIn, scalars_before}
+use Rattle.rounding.specs.Refusals.{scalar_of}
 use Rattle.edit_cow.specs.declared.error.EditError.TheVariants as refusal
-use Rattle.edit_cow.specs.Edits.{scalar_of, rewritten_between, edited}
+use Rattle.edit_cow.specs.Edits.{rewritten_between, edited}
 use Rattle.edit_cow.proofs.Outcomes.{reversed, ordered}
 use Rattle.edit_cow.proofs.edits.replace.Goals as goal
 use Rattle.edit_cow.proofs.edits.replace.Goals.{Then-to-from, After-rewrite}
@@ -18,9 +17,9 @@ wrong g c =
     let now = c.args.s.now in
     let same = c.in_ok-from.ensures.kept in
     reversed now c.args.a c.args.b c.args.with.now c.in_ok-from.from c.in_ok-to.to c.in_ok-from.ensures.number
-    (subst (λ m. scalar_of m c.args.b ≡ Some (down (width_in (storage_of m.row)) m.text c.in_ok-to.to)) same c.in_ok-to.ensures.number)
+    (subst (λ m. scalar_of (own_part m) c.args.b ≡ Some (scalars_before (own_part m) c.in_ok-to.to)) same c.in_ok-to.ensures.number)
     c.in_ok-from.ensures.boundary
-    (subst (λ m. IsScalarBoundary (width_in (storage_of m.row)) m.text c.in_ok-to.to) same c.in_ok-to.ensures.boundary) c.if-to-from.true
+    (subst (λ m. IsBoundaryIn (own_part m) c.in_ok-to.to) same c.in_ok-to.ensures.boundary) c.if-to-from.true
 
 pub returns-then-to-from-clause-refused : goal.returns-then-to-from-clause-refused
 returns-then-to-from-clause-refused g c = inr (wrong g c)
@@ -30,13 +29,13 @@ returns-then-to-from-clause-cause g c e h = let is = wrong g c in cc (is, h)
 
 -- it isn't
 right : (g : Over) (c : After-rewrite g)
-    → rewritten_between c.boundary_of-2.new.s c.in_ok-from.from c.in_ok-to.to c.args.with.now ≡ edited c.args.s.now c.args.a c.args.b c.args.with.now
+    → rewritten_between c.scalar_boundary-2.new.t c.in_ok-from.from c.in_ok-to.to c.args.with.now ≡ edited c.args.s.now c.args.a c.args.b c.args.with.now
 right g c =
     let now = c.args.s.now in
     let same = c.in_ok-from.ensures.kept in
     ap (λ m. rewritten_between m c.in_ok-from.from c.in_ok-to.to c.args.with.now) (c.in_ok-to.ensures.kept ∙ same)
     ∙ sym (ordered now c.args.a c.args.b c.args.with.now c.in_ok-from.from c.in_ok-to.to c.in_ok-from.ensures.number
-    (subst (λ m. scalar_of m c.args.b ≡ Some (down (width_in (storage_of m.row)) m.text c.in_ok-to.to)) same c.in_ok-to.ensures.number) c.if-to-from.false)
+    (subst (λ m. scalar_of (own_part m) c.args.b ≡ Some (scalars_before (own_part m) c.in_ok-to.to)) same c.in_ok-to.ensures.number) c.if-to-from.false)
 
 pub returns-clause-text : goal.returns-clause-text
 returns-clause-text g c = subst (λ o. OnOk c.rewrite.result (o ≡ Ok c.rewrite.new.s.text)) (right g c) c.rewrite.ensures.text
