@@ -92,12 +92,12 @@ fn compare_block<T: Text, L: Ledger>(
     requires ascii { T.marked_ascii a.old ≡ true }
     requires other_ascii { T.marked_ascii b.old ≡ true }
     requires some { from < to }
-    requires inside { to ≤ length (T.whole a.old) }
-    requires other_inside { to ≤ length (T.whole b.old) }
-    requires aligned { from % codes.in_a_word (codes.wider (T.storage a.old) (T.storage b.old)) ≡ 0 }
-    requires near { to ≤ from + codes.in_a_word (codes.wider (T.storage a.old) (T.storage b.old)) }
-    ensures order { slice_cmp nat_cmp (drop from (T.whole a.old)) (drop from (T.whole b.old))
-        ≡ ordering_then result (slice_cmp nat_cmp (drop to (T.whole a.old)) (drop to (T.whole b.old))) }
+    requires inside { to ≤ length (T.part a.old).whole }
+    requires other_inside { to ≤ length (T.part b.old).whole }
+    requires aligned { from % codes.in_a_word (codes.wider (T.part a.old).storage (T.part b.old).storage) ≡ 0 }
+    requires near { to ≤ from + codes.in_a_word (codes.wider (T.part a.old).storage (T.part b.old).storage) }
+    ensures order { slice_cmp nat_cmp (drop from (T.part a.old).whole) (drop from (T.part b.old).whole)
+        ≡ ordering_then result (slice_cmp nat_cmp (drop to (T.part a.old).whole) (drop to (T.part b.old).whole)) }
     ensures kept { a.new ≡ a.old }
     ensures other_kept { b.new ≡ b.old }
     ensures cost { steps.new ≡ steps.old + 2 }
@@ -122,10 +122,10 @@ pub(crate) fn compare_ascii<T: Text, L: Ledger>(
 ) -> Ordering
     requires ascii { T.marked_ascii a.old ≡ true }
     requires other_ascii { T.marked_ascii b.old ≡ true }
-    ensures order { result ≡ slice_cmp nat_cmp (T.whole a.old) (T.whole b.old) }
+    ensures order { result ≡ slice_cmp nat_cmp (T.part a.old).whole (T.part b.old).whole }
     ensures kept { a.new ≡ a.old }
     ensures other_kept { b.new ≡ b.old }
-    ensures cost { steps.new ≤ steps.old + 2 * content_words (codes.wider (T.storage a.old) (T.storage b.old)) (min (length (T.whole a.old)) (length (T.whole b.old))) }
+    ensures cost { steps.new ≤ steps.old + 2 * content_words (codes.wider (T.part a.old).storage (T.part b.old).storage) (min (length (T.part a.old).whole) (length (T.part b.old).whole)) }
 {
     let _ascii = a.ascii();
     let _other_ascii = b.ascii();
@@ -151,11 +151,11 @@ pub(crate) fn compare_ascii<T: Text, L: Ledger>(
 pub(crate) fn equal_ascii<T: Text, L: Ledger>(a: &mut T, b: &mut T, steps: &mut Steps<L>) -> bool
     requires ascii { T.marked_ascii a.old ≡ true }
     requires other_ascii { T.marked_ascii b.old ≡ true }
-    ensures answer { IsTrue result ↔ (T.whole a.old ≡ T.whole b.old) }
+    ensures answer { IsTrue result ↔ ((T.part a.old).whole ≡ (T.part b.old).whole) }
     ensures kept { a.new ≡ a.old }
     ensures other_kept { b.new ≡ b.old }
-    ensures cost { steps.new ≤ steps.old + 2 * content_words (codes.wider (T.storage a.old) (T.storage b.old)) (min (length (T.whole a.old)) (length (T.whole b.old))) }
-    ensures unread { length (T.whole a.old) ≢ length (T.whole b.old) → steps.new ≡ steps.old }
+    ensures cost { steps.new ≤ steps.old + 2 * content_words (codes.wider (T.part a.old).storage (T.part b.old).storage) (min (length (T.part a.old).whole) (length (T.part b.old).whole)) }
+    ensures unread { length (T.part a.old).whole ≢ length (T.part b.old).whole → steps.new ≡ steps.old }
 {
     let _ascii = a.ascii();
     let _other_ascii = b.ascii();

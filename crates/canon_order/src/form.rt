@@ -1,9 +1,10 @@
 //! The sort key of a text: the UTF-8 of its normalization form C.
-ghost use Rattle.std.specs.Prelude.{◌≡◌, ◌+◌, ◌*◌, ◌≤◌, length, IfOk, string_bytes};
+ghost use Rattle.std.specs.Prelude.{◌≡◌, ◌+◌, ◌*◌, ◌≤◌, IfOk, string_bytes};
 ghost use Rattle.text_spec.specs.declared.encoding.Encoding.TheVariants.{Utf8};
 ghost use Rattle.text_spec.specs.Packed.{content_words};
 ghost use Rattle.text_spec.specs.Text.{utf8};
 ghost use Rattle.text_spec.specs.Views.{part, size_in};
+ghost use Rattle.word_units.specs.Parts.{text_in};
 ghost use Rattle.unicode_normalization.specs.Forms.{nfc};
 
 use simdutf8::compat::from_utf8;
@@ -20,10 +21,10 @@ fn bytes_of<T: Text, L: Ledger>(
     t: &mut T,
     steps: &mut Steps<L>,
 ) -> Result<Vec<u8>, OutOfMemory>
-    requires { T.storage t.old ≡ Utf8 }
-    ensures bytes { IfOk result (λ v. v.items ≡ utf8 (T.whole t.old)) }
+    requires { (T.part t.old).storage ≡ Utf8 }
+    ensures bytes { IfOk result (λ v. v.items ≡ utf8 (T.part t.old).whole) }
     ensures kept { t.new ≡ t.old }
-    ensures cost { steps.new ≤ steps.old + content_words Utf8 (size_in Utf8 (T.whole t.old)) }
+    ensures cost { steps.new ≤ steps.old + content_words Utf8 (size_in Utf8 (T.part t.old).whole) }
 {
     let count = t.count();
     let mut bytes = Vec::with_capacity(alloc, count as usize)?;
@@ -43,10 +44,10 @@ pub(crate) fn key_of_bytes<T: Text, L: Ledger>(
     t: &mut T,
     steps: &mut Steps<L>,
 ) -> Result<Vec<u8>, OutOfMemory>
-    requires { T.storage t.old ≡ Utf8 }
-    ensures key { IfOk result (λ v. v.items ≡ utf8 (nfc (T.whole t.old))) }
+    requires { (T.part t.old).storage ≡ Utf8 }
+    ensures key { IfOk result (λ v. v.items ≡ utf8 (nfc (T.part t.old).whole)) }
     ensures kept { t.new ≡ t.old }
-    ensures cost { steps.new ≤ steps.old + content_words Utf8 (size_in Utf8 (T.whole t.old)) }
+    ensures cost { steps.new ≤ steps.old + content_words Utf8 (size_in Utf8 (T.part t.old).whole) }
 {
     let _count = t.count();
     let bytes = bytes_of(alloc, t, steps)?;
@@ -65,9 +66,9 @@ fn scalars_of<T: Text, L: Ledger>(
     t: &mut T,
     steps: &mut Steps<L>,
 ) -> Result<Vec<char>, OutOfMemory>
-    ensures scalars { IfOk result (λ v. v.items ≡ part (T.whole t.old) (T.first t.old) (T.end t.old)) }
+    ensures scalars { IfOk result (λ v. v.items ≡ text_in (T.part t.old)) }
     ensures kept { t.new ≡ t.old }
-    ensures cost { steps.new + 2 * T.first t.old ≤ steps.old + 2 * T.end t.old }
+    ensures cost { steps.new + 2 * (T.part t.old).first ≤ steps.old + 2 * (T.part t.old).end }
 {
     let _count = t.count();
     let low = t.low();
@@ -88,9 +89,9 @@ fn form_of<T: Text, L: Ledger>(
     t: &mut T,
     steps: &mut Steps<L>,
 ) -> Result<Vec<char>, OutOfMemory>
-    ensures form { IfOk result (λ v. v.items ≡ nfc (part (T.whole t.old) (T.first t.old) (T.end t.old))) }
+    ensures form { IfOk result (λ v. v.items ≡ nfc (text_in (T.part t.old))) }
     ensures kept { t.new ≡ t.old }
-    ensures cost { steps.new + 2 * T.first t.old ≤ steps.old + 2 * T.end t.old }
+    ensures cost { steps.new + 2 * (T.part t.old).first ≤ steps.old + 2 * (T.part t.old).end }
 {
     let scalars = scalars_of(alloc, t, steps)?;
     if is_nfc_quick(scalars.as_slice()) == QuickCheck::Yes {
@@ -118,9 +119,9 @@ pub(crate) fn key_of_units<T: Text, L: Ledger>(
     t: &mut T,
     steps: &mut Steps<L>,
 ) -> Result<Vec<u8>, OutOfMemory>
-    ensures key { IfOk result (λ v. v.items ≡ utf8 (nfc (part (T.whole t.old) (T.first t.old) (T.end t.old)))) }
+    ensures key { IfOk result (λ v. v.items ≡ utf8 (nfc (text_in (T.part t.old)))) }
     ensures kept { t.new ≡ t.old }
-    ensures cost { steps.new + 2 * T.first t.old ≤ steps.old + 2 * T.end t.old }
+    ensures cost { steps.new + 2 * (T.part t.old).first ≤ steps.old + 2 * (T.part t.old).end }
 {
     let form = form_of(alloc, t, steps)?;
     let text = utf8_of(alloc, form.as_slice())?;

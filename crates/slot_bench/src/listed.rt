@@ -45,20 +45,15 @@ impl Listed {
 }
 
 impl Text for Listed {
-    ghost use Rattle.std.specs.Prelude.{false, [], drop, length};
+    ghost use Rattle.std.specs.Prelude.{false, [], drop};
     ghost use Rattle.text_spec.specs.declared.encoding.Encoding.TheVariants.{Utf8};
     ghost use Rattle.std.specs.Option.{unwrap_or};
+    ghost use Rattle.word_units.specs.Parts.{all_of};
     ghost use Rattle.crumbs.specs.Fitting.{stored_text};
 
-    ghost storage = { λ t. Utf8 };
+    ghost part = { λ t. all_of Utf8 (unwrap_or (stored_text (t.0)) []) };
 
     ghost words = { λ t. drop 1 (t.0) };
-
-    ghost whole = { λ t. unwrap_or (stored_text (t.0)) [] };
-
-    ghost first = { λ t. 0 };
-
-    ghost end = { λ t. length (unwrap_or (stored_text (t.0)) []) };
 
     ghost knows_crumbs = { λ t. t.2 };
 

@@ -5,35 +5,34 @@ use Rattle.text_spec.specs.Offsets.{start, down}
 use Rattle.text_spec.specs.Rounding.{Place}
 use Rattle.text_spec.specs.Views.{width_in, part}
 use Rattle.text_spec.proofs.Downward.{down-length}
-use Rattle.text_spec.proofs.Walk.{down-start, start-zero}
+use Rattle.text_spec.proofs.Walk.{down-start}
 use Rattle.text_spec.proofs.Widths.{width_some}
-use Rattle.index_words.specs.Fields.{position_of}
-use Rattle.word_units.specs.declared.bounds.OutOfBounds.{OutOfBounds}
-use Rattle.rounding.specs.Resolving.{resolved, read_width}
-use Rattle.str_value.specs.Meaning.{Meaning, storage_of}
+use Rattle.rounding.specs.Resolving.{resolved}
+use Rattle.str_value.specs.Meaning.{Meaning, storage_of, own_part}
 use Rattle.str_value.proofs.Parts.{start-boundary}
 use Rattle.substring.specs.Slice.{IsSlice, text_of}
-use Rattle.substring.specs.Slicing.{boundary_of, scalar_of, IsOutOfRange}
+use Rattle.rounding.specs.Refusals.{boundary_of, scalar_of}
+use Rattle.substring.specs.declared.error.SliceError.TheVariants as refusal
 
 -- the boundary of an index is where a scalar begins, or the text ends
 pub record IsEnd (base : Meaning) (index place : ℕ) : Type 0 where
   pub number : ℕ
   pub inside : number ≤ length (base.text)
   pub is : place ≡ start (width_in (storage_of (base.row))) (base.text) number
-  pub scalar : scalar_of base index ≡ Some number
+  pub scalar : scalar_of (own_part base) index ≡ Some number
 
 from-place : (w : ℕ → ℕ) (t : List ℕ) (r : Option Place) (place : ℕ) → option_map (λ p. start w t (down w t (p.0))) r ≡ Some place
     → (number : ℕ) × (number ≤ length t) × (place ≡ start w t number) × (option_map (λ p. down w t (p.0)) r ≡ Some number)
 from-place w t None place found = absurd cc
 from-place w t (Some p) place found = (down w t (p.0), down-length w t (p.0), ap (λ o. unwrap_or o 0) (sym found), refl)
 
-pub end-of : (base : Meaning) (index place : ℕ) → boundary_of base index ≡ Some place → IsEnd base index place
+pub end-of : (base : Meaning) (index place : ℕ) → boundary_of (own_part base) index ≡ Some place → IsEnd base index place
 end-of base index place found =
-    let told = from-place (width_in (storage_of (base.row))) (base.text) (resolved (storage_of (base.row)) (base.text) 0 (length (base.text)) index) place found in
+    let told = from-place (width_in (storage_of (base.row))) (base.text) (resolved (own_part base) index) place found in
     record { number = told.0; inside = told.1; is = told.2; scalar = told.3 }
 
 -- two boundaries in order are the ends of a slice
-pub is-slice : (base copy : Meaning) (a b low high : ℕ) → copy ≡ base → boundary_of base a ≡ Some low → boundary_of base b ≡ Some high → low ≤ high
+pub is-slice : (base copy : Meaning) (a b low high : ℕ) → copy ≡ base → boundary_of (own_part base) a ≡ Some low → boundary_of (own_part base) b ≡ Some high → low ≤ high
     → IsSlice (record { base = copy; low = low; high = high })
 is-slice base copy a b low high same first second order =
     let from = end-of base a low first in
@@ -46,7 +45,7 @@ is-slice base copy a b low high same first second order =
     })
 
 -- and its text is that of the scalars from the one number to the other
-number-at : (base : Meaning) (index place k : ℕ) → boundary_of base index ≡ Some place → scalar_of base index ≡ Some k
+number-at : (base : Meaning) (index place k : ℕ) → boundary_of (own_part base) index ≡ Some place → scalar_of (own_part base) index ≡ Some k
     → down (width_in (storage_of (base.row))) (base.text) place ≡ k
 number-at base index place k found scalar =
     let width = width_in (storage_of (base.row)) in
@@ -54,24 +53,9 @@ number-at base index place k found scalar =
     ap (down width (base.text)) told.is ∙ down-start width (width_some (storage_of (base.row))) (base.text) told.number told.inside
     ∙ ap (λ o. unwrap_or o 0) (sym told.scalar ∙ scalar)
 
-pub slice-text : (base copy : Meaning) (a b low high i j : ℕ) → copy ≡ base → boundary_of base a ≡ Some low → boundary_of base b ≡ Some high
-    → scalar_of base a ≡ Some i → scalar_of base b ≡ Some j → text_of (record { base = copy; low = low; high = high }) ≡ part (base.text) i j
+pub slice-text : (base copy : Meaning) (a b low high i j : ℕ) → copy ≡ base → boundary_of (own_part base) a ≡ Some low → boundary_of (own_part base) b ≡ Some high
+    → scalar_of (own_part base) a ≡ Some i → scalar_of (own_part base) b ≡ Some j → text_of (record { base = copy; low = low; high = high }) ≡ part (base.text) i j
 slice-text base copy a b low high i j same first second from to =
     ap (λ m. text_of (record { base = m; low = low; high = high })) same
     ∙ ap (λ n. part (base.text) n (down (width_in (storage_of (base.row))) (base.text) high)) (number-at base a low i first from)
     ∙ ap (λ n. part (base.text) i n) (number-at base b high j second to)
-
--- an index that isn't resolved is out of range, with the numbers that it is refused with
-pub out-of-range : (base : Meaning) (index : ℕ) (out : OutOfBounds) → resolved (storage_of (base.row)) (base.text) 0 (length (base.text)) index ≡ None
-    → out ≡ record {
-      position = position_of index;
-      low = start (read_width (storage_of (base.row)) index) (base.text) 0;
-      high = start (read_width (storage_of (base.row)) index) (base.text) (length (base.text));
-    } → IsOutOfRange base index out
-out-of-range base index out none carries =
-    let width = read_width (storage_of (base.row)) index in
-    let t = base.text in
-    let with_low : ℕ → OutOfBounds = λ n. record { position = position_of index; low = n; high = start width t (length t) } in (
-      ap (option_map (λ place. start (width_in (storage_of (base.row))) t (down (width_in (storage_of (base.row))) t (place.0)))) none,
-      carries ∙ ap with_low (start-zero width t),
-    )

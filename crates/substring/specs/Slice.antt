@@ -1,8 +1,7 @@
 -- What contracts see of a slice of a value: the value, and where the slice begins and ends in it.
 use Rattle.std.specs.Prelude.{ℕ, ◌≤◌, List}
-use Rattle.text_spec.specs.Boundaries.{IsScalarBoundary}
-use Rattle.text_spec.specs.Views.{width_in}
-use Rattle.str_value.specs.Meaning.{Meaning, storage_of, text_between}
+use Rattle.word_units.specs.Parts.{Part, part_of, IsBoundaryIn, scalars_before, text_in}
+use Rattle.str_value.specs.Meaning.{Meaning, storage_of, own_part}
 
 pub record Slice : Type 0 where
   -- what contracts see of the value
@@ -11,16 +10,17 @@ pub record Slice : Type 0 where
   pub low : ℕ
   pub high : ℕ
 
--- the slice's own text: the scalars between its ends
-abbrev pub text_of : Slice → List ℕ
-text_of slice = text_between slice.base slice.low slice.high
+-- the slice as the part of the value's text that lies between its ends
+abbrev pub part_in : Slice → Part
+part_in slice = part_of (storage_of slice.base.row) slice.base.text
+    (scalars_before (own_part slice.base) slice.low) (scalars_before (own_part slice.base) slice.high)
 
--- a place is a scalar boundary of a value
-abbrev pub IsBoundaryOf : Meaning → ℕ → Type 0
-IsBoundaryOf base place = IsScalarBoundary (width_in (storage_of base.row)) base.text place
+-- the slice's own text
+abbrev pub text_of : Slice → List ℕ
+text_of slice = text_in (part_in slice)
 
 -- the ends are scalar boundaries, in order
 pub record IsSlice (slice : Slice) : Type 0 where
-  pub low : IsBoundaryOf slice.base slice.low
-  pub high : IsBoundaryOf slice.base slice.high
+  pub low : IsBoundaryIn (own_part slice.base) slice.low
+  pub high : IsBoundaryIn (own_part slice.base) slice.high
   pub order : slice.low ≤ slice.high

@@ -1,20 +1,22 @@
 //! A slice of a value between two indices.
-ghost use Rattle.std.specs.Prelude.{◌≡◌, ◌≢◌, ◌↔◌, ◌+◌, ◌≤◌, ℕ, Some, IfOk, IfErr};
+ghost use Rattle.std.specs.Prelude.{◌≡◌, ◌≢◌, ◌+◌, ◌≤◌, ◌⊎◌, ℕ, Some, Ok, Err, IfOk, IfErr};
 ghost use Rattle.text_spec.specs.Views.{part};
 ghost use Rattle.object_words.specs.Rows.{form_of};
 ghost use Rattle.object_words.specs.declared.form.Form.TheVariants.{Small};
-ghost use Rattle.word_units.specs.declared.bounds.OutOfBounds.{OutOfBounds};
+ghost use Rattle.rounding.specs.Refusals.{boundary_of, scalar_of, IsOutOfRange};
+ghost use Rattle.str_value.specs.Meaning.{own_part};
+ghost use Rattle.substring.specs.declared.error.SliceError.{SliceError};
 ghost use Rattle.substring.specs.Slice.{text_of};
-ghost use Rattle.substring.specs.Slicing.{boundary_of, scalar_of, IsSliceOf, IsOutOfRange, IsEitherOut, IsReversed, resolving_words};
+ghost use Rattle.substring.specs.Slicing.{sliced, resolving_words};
 
 use crate::error::SliceError;
 use crate::sub_value::Sub;
 use index_words::Index;
-use rounding::resolve;
+use rounding::scalar_boundary;
 use std::alloc::Global;
 use std::sync::ledger::Ledger;
 use str_value::{Pass, Str};
-use word_units::{OutOfBounds, Steps, boundary_at_or_before};
+use word_units::{OutOfBounds, Steps};
 
 /// The slice of `base` from the index `a` to the index `b`, each rounded down to a scalar boundary.
 ///
@@ -30,19 +32,21 @@ pub fn slice<'h, L: Ledger>(
     b: Index,
     steps: &mut Steps<L>,
 ) -> Result<Sub<'h>, SliceError>
-    ensures slice { IfOk result (IsSliceOf base.old a b) }
-    ensures text { IfOk result (λ sub. (i j : ℕ) → scalar_of base.old a ≡ Some i → scalar_of base.old b ≡ Some j → text_of sub ≡ part base.old.text i j) }
+    ensures slice { IfOk result (λ sub. sliced base.old a b ≡ Ok sub) }
+    ensures text { IfOk result (λ sub. (i j : ℕ) → scalar_of (own_part base.old) a ≡ Some i → scalar_of (own_part base.old) b ≡ Some j
+        → text_of sub ≡ part base.old.text i j) }
 
-    // Each refusal comes for its cause, and each time.
-    ensures out_of_bounds { (out : OutOfBounds) → (result ≡ Err (SliceError.OutOfBounds out)) ↔ IsEitherOut base.old a b out }
-    ensures reversed { (x y : ℕ) → (result ≡ Err (SliceError.Reversed x y)) ↔ (IsReversed base.old a b × (x ≡ a) × (y ≡ b)) }
+    // Refused for want of memory, or for the first cause that stands, and for that each time.
+    ensures refused { IfErr result (λ e. (e ≡ SliceError.OutOfMemory) ⊎ (sliced base.old a b ≡ Err e)) }
+    ensures cause { (e : SliceError) → sliced base.old a b ≡ Err e → result ≡ Err e }
     ensures small_is_free { result ≡ Err SliceError.OutOfMemory → form_of base.old.row ≢ Small }
 
     ensures kept { base.new ≡ base.old }
     ensures pass { pass.new ≡ pass.old }
     ensures cost { steps.new ≤ steps.old + resolving_words base.old a + resolving_words base.old b + 4 }
 {
-    let (low, high) = boundaries(base, a, b, steps)?;
+    let low = boundary(base, a, steps)?;
+    let high = boundary(base, b, steps)?;
     if low > high {
         return Err(SliceError::Reversed { a, b });
     }
@@ -54,42 +58,16 @@ pub fn slice<'h, L: Ledger>(
     })
 }
 
-// The scalar boundaries of two indices, in code units of the storage.
-fn boundaries<L: Ledger>(
-    base: &mut Str,
-    a: Index,
-    b: Index,
-    steps: &mut Steps<L>,
-) -> Result<(u64, u64), OutOfBounds>
-    ensures first { IfOk result (λ found. boundary_of base.old a ≡ Some found.0) }
-    ensures second { IfOk result (λ found. boundary_of base.old b ≡ Some found.1) }
-    ensures refused { IfErr result (IsEitherOut base.old a b) }
-    ensures kept { base.new ≡ base.old }
-    ensures cost { steps.new ≤ steps.old + resolving_words base.old a + resolving_words base.old b + 4 }
-{
-    let low = match boundary(base, a, steps) {
-        Ok(low) => low,
-        Err(out) => return Err(out),
-    };
-    match boundary(base, b, steps) {
-        Ok(high) => Ok((low, high)),
-        Err(out) => Err(out),
-    }
-}
-
-// The greatest scalar boundary not after an index, in code units of the storage.
+// The scalar boundary of an index, in code units of the storage.
 fn boundary<L: Ledger>(
     base: &mut Str,
     index: Index,
     steps: &mut Steps<L>,
 ) -> Result<u64, OutOfBounds>
-    ensures found { IfOk result (λ at. boundary_of base.old index ≡ Some at) }
-    ensures refused { IfErr result (IsOutOfRange base.old index) }
+    ensures found { IfOk result (λ at. boundary_of (own_part base.old) index ≡ Some at) }
+    ensures refused { IfErr result (IsOutOfRange (own_part base.old) index) }
     ensures kept { base.new ≡ base.old }
     ensures cost { steps.new ≤ steps.old + resolving_words base.old index + 2 }
 {
-    match resolve(base, index, steps) {
-        Ok(place) => Ok(boundary_at_or_before(base, place.position(), steps)),
-        Err(out) => Err(out),
-    }
+    scalar_boundary(base, index, steps)
 }

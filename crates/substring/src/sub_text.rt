@@ -7,20 +7,12 @@ use word_units::{Steps, Text};
 /// The part of the base's storage between the two ends is the text. Its breadcrumbs are never known: those of the base are the whole's.
 impl<'h> Text for Sub<'h> {
     ghost use Rattle.std.specs.Prelude.{false};
-    ghost use Rattle.text_spec.specs.Offsets.{down};
-    ghost use Rattle.text_spec.specs.Views.{width_in};
     ghost use Rattle.object_words.specs.Rows.{ascii_of};
-    ghost use Rattle.str_value.specs.Meaning.{storage_of};
+    ghost use Rattle.substring.specs.Slice.{part_in};
 
-    ghost storage = { λ sub. storage_of sub.base.row };
+    ghost part = { part_in };
 
     ghost words = { λ sub. sub.base.words };
-
-    ghost whole = { λ sub. sub.base.text };
-
-    ghost first = { λ sub. down (width_in (storage_of sub.base.row)) sub.base.text sub.low };
-
-    ghost end = { λ sub. down (width_in (storage_of sub.base.row)) sub.base.text sub.high };
 
     ghost knows_crumbs = { λ sub. false };
 

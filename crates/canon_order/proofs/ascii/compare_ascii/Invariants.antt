@@ -8,9 +8,9 @@ use Rattle.canon_order.proofs.ascii.compare_ascii.Given as goal
 -- the blocks so far decide nothing, and each took a word of both texts
 abbrev pub invariant-parts : goal.invariant-parts
 invariant-parts g l =
-    let wide = wider (g.T.Text.storage l.fn.a) (g.T.Text.storage l.fn.b) in
-    let a = g.T.Text.whole l.fn.a in
-    let b = g.T.Text.whole l.fn.b in
+    let wide = wider (g.T.Text.part l.fn.a).storage (g.T.Text.part l.fn.b).storage in
+    let a = (g.T.Text.part l.fn.a).whole in
+    let b = (g.T.Text.part l.fn.b).whole in
     record {
       same : l.a ≡ l.fn.a;
       other_same : l.b ≡ l.fn.b;

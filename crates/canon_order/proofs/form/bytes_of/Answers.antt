@@ -13,8 +13,8 @@ words-preserved g c =
     record {
       same = c.word-word.ensures.kept ∙ i.same;
       bytes = c.in_ok-extend_from_slice.ensures.items ∙ ap (λ l. l ++ take c.min-size.result c.to_le_bytes.result) i.bytes
-          ∙ ap (λ bs. take c.words.at (utf8 (g.T.Text.whole c.args.t.now)) ++ take c.min-size.result bs) c.to_le_bytes.ensures
-          ∙ word-more _ (g.T.Text.words c.args.t.now) _ (g.T.Text.whole c.args.t.now) c.words.at c.min-size.result c.word-word.result c.requires count.value count.denotes
+          ∙ ap (λ bs. take c.words.at (utf8 (g.T.Text.part c.args.t.now).whole) ++ take c.min-size.result bs) c.to_le_bytes.ensures
+          ∙ word-more _ (g.T.Text.words c.args.t.now) _ (g.T.Text.part c.args.t.now).whole c.words.at c.min-size.result c.word-word.result c.requires count.value count.denotes
           aligned (omega (arith, size)) (omega (arith, size, c.words-test.true)) word;
       within = omega (arith, size, c.words-test.true);
       aligned = λ h. omega (arith, size, aligned, h);
@@ -25,4 +25,4 @@ pub returns-clause-bytes : goal.returns-clause-bytes
 returns-clause-bytes g c =
     let i = c.words.invariant in
     let count = c.count-count.ensures in
-    i.bytes ∙ whole-bytes _ (g.T.Text.words c.args.t.now) _ (g.T.Text.whole c.args.t.now) c.words.at c.requires count.value count.denotes (omega (arith, i.within, c.words-test.false))
+    i.bytes ∙ whole-bytes _ (g.T.Text.words c.args.t.now) _ (g.T.Text.part c.args.t.now).whole c.words.at c.requires count.value count.denotes (omega (arith, i.within, c.words-test.false))

@@ -9,7 +9,7 @@ abbrev pub invariant-words : goal.invariant-words
 invariant-words g l =
     record {
       same : l.t ≡ l.fn.t;
-      bytes : l.bytes.items ≡ take l.at (utf8 (g.T.Text.whole l.fn.t));
+      bytes : l.bytes.items ≡ take l.at (utf8 (g.T.Text.part l.fn.t).whole);
       within : l.at ≤ l.count;
       aligned : l.at < l.count → l.at % 8 ≡ 0;
       cost : l.steps ≤ l.fn.steps + content_words Utf8 l.at;

@@ -6,9 +6,9 @@ use Rattle.canon_order.proofs.form.scalars_of.Given as goal
 -- the scalars so far are collected, at two words each
 abbrev pub invariant-scalars : goal.invariant-scalars
 invariant-scalars g l =
-    let w = width_in (g.T.Text.storage l.fn.t) in
-    let b = g.T.Text.whole l.fn.t in
-    let first = g.T.Text.first l.fn.t in
+    let w = width_in (g.T.Text.part l.fn.t).storage in
+    let b = (g.T.Text.part l.fn.t).whole in
+    let first = (g.T.Text.part l.fn.t).first in
     record {
       same : l.t ≡ l.fn.t;
       items : l.scalars.items ≡ part b first (down w b l.at);
