@@ -111,7 +111,7 @@ fn value_between<'h>(
 }
 
 // The value of UTF-8 in a vector, which it keeps where the bytes are too many for its words.
-fn keep<'h>(bytes: Vec<u8>) -> Str<'h>
+pub(crate) fn keep<'h>(bytes: Vec<u8>) -> Str<'h>
     requires utf8 { IsUtf8 bytes.items }
     requires limit { length bytes.items ≤ MAX_TEXT_BYTES }
     ensures text { result.text ≡ chars bytes.items }

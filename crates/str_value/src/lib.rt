@@ -19,6 +19,7 @@ mod replacing;
 mod small;
 mod splicing;
 mod storage;
+mod taking;
 #[cfg(test)]
 mod tests;
 mod text;

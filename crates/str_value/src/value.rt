@@ -14,7 +14,8 @@ use crate::lengths::{Lengths, lengths_of};
 use crate::pass::Pass;
 use crate::small::object_bytes;
 use crate::storage::{Storage, with_units};
-use crate::units::{are_ascii, length_between, lengths_of_units, text_between};
+use crate::taking::keep_units;
+use crate::units::{length_between, lengths_of_units, text_between};
 use object_words::{Form, Object, SMALL_CAPACITY};
 use std::alloc::Global;
 use std::marker::{Model, PhantomData};
@@ -218,14 +219,8 @@ fn own_units<'h>(alloc: Global, units: &[u16]) -> Result<Str<'h>, MakeError>
     ensures row { IfOk result (λ s. s.row ≡ utf16_row units.now) }
     ensures memory { IfErr result (λ e. e ≡ MakeError.OutOfMemory) }
 {
-    let ascii = are_ascii(units);
-    let object = Object::owned(ascii, ascii, true, units.len() as u64);
     let copy = Vec::from_slice(alloc, units)?;
-    Ok(Str {
-        object,
-        storage: Storage::Units(copy),
-        heap: PhantomData,
-    })
+    Ok(keep_units(copy))
 }
 
 // Whether all bytes are ASCII, a word at a time.

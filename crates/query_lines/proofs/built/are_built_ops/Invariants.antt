@@ -1,7 +1,0 @@
-use Rattle.std.proofs.Common.{◌≡◌, drop}
-use Rattle.query_lines.specs.Commands.{are_built_ops}
-use Rattle.query_lines.proofs.built.are_built_ops.Given as goal
-
--- the ops that were looked at are built
-abbrev pub invariant-loop-op : goal.invariant-loop-op
-invariant-loop-op l = are_built_ops (drop l.op-index l.ops) ≡ are_built_ops l.ops
