@@ -1,0 +1,4 @@
+pub mod Account
+pub mod Counts
+pub mod Shares
+pub mod Laws
