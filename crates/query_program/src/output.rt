@@ -1,4 +1,4 @@
-ghost use Rattle.std.specs.Prelude.{◌≡◌, ◌≤◌, [], OnOk, OnErr};
+ghost use Rattle.std.specs.Prelude.{◌≡◌, ◌⊎◌, [], OnOk, OnErr, IsErrOf};
 ghost use Rattle.std.specs.Io.KnownBytes.{Appends};
 ghost use Rattle.outside.specs.Bytes.{AppendsPrefix};
 ghost use Rattle.outside.specs.Causes.{Rose};
@@ -14,7 +14,7 @@ pub(crate) fn send_large<K: Sink>(sink: &mut K, gathered: &mut Vec<u8>) -> Resul
     ensures begun { AppendsPrefix (K.written sink.old) (K.written sink.new) gathered.old.items }
     ensures stops { IsWriteStopOf result }
     ensures cause { OnErr result (Rose (K.faults sink.old) (K.faults sink.new)) }
-    ensures later { K.faults sink.old ≤ K.faults sink.new }
+    ensures still { IsErrOf result Stop.WriteFault ⊎ (K.faults sink.new ≡ K.faults sink.old) }
 {
     if gathered.len() < PIECE {
         return Ok(());
@@ -29,7 +29,7 @@ pub(crate) fn send<K: Sink>(sink: &mut K, gathered: &mut Vec<u8>) -> Result<(), 
     ensures begun { AppendsPrefix (K.written sink.old) (K.written sink.new) gathered.old.items }
     ensures stops { IsWriteStopOf result }
     ensures cause { OnErr result (Rose (K.faults sink.old) (K.faults sink.new)) }
-    ensures later { K.faults sink.old ≤ K.faults sink.new }
+    ensures still { IsErrOf result Stop.WriteFault ⊎ (K.faults sink.new ≡ K.faults sink.old) }
 {
     write_whole(sink, gathered)?;
     gathered.clear();
@@ -42,7 +42,7 @@ fn write_whole<K: Sink>(sink: &mut K, bytes: &[u8]) -> Result<(), Stop>
     ensures begun { AppendsPrefix (K.written sink.old) (K.written sink.new) bytes.now }
     ensures stops { IsWriteStopOf result }
     ensures cause { OnErr result (Rose (K.faults sink.old) (K.faults sink.new)) }
-    ensures later { K.faults sink.old ≤ K.faults sink.new }
+    ensures still { IsErrOf result Stop.WriteFault ⊎ (K.faults sink.new ≡ K.faults sink.old) }
 {
     let mut at = 0;
     while at < bytes.len() {

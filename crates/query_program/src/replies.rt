@@ -38,7 +38,7 @@ pub(crate) fn answer_lines<'h, R: Threads + Sync, K: Sink, G: Gate>(
     ensures begun { AppendsPrefix (K.written sink.old) (K.written sink.new) (answers_from session.old.state (whole_lines buffer.old.bytes)) }
     ensures stops { IsWriteStopOf result }
     ensures cause { IsErrOf result Stop.WriteFault → Rose (K.faults sink.old) (K.faults sink.new) }
-    ensures later { K.faults sink.old ≤ K.faults sink.new }
+    ensures still { IsErrOf result Stop.WriteFault ⊎ (K.faults sink.new ≡ K.faults sink.old) }
     ensures whole { IsErrOf result Stop.OutOfMemory ⊎ (session.new.failed ≡ false) }
 {
     'lines: while let Some(length) = buffer.first_line() {

@@ -33,6 +33,8 @@ pub(crate) fn answer_stream<'h, R: Threads + Sync, S: Source, K: Sink, G: Gate>(
     ensures ends { IfSome (S.left source.old) (Ends session.old.state (S.left source.new) (K.written sink.old) (K.written sink.new) result) }
     ensures read { IsErrOf result Stop.ReadFault → Rose (S.faults source.old) (S.faults source.new) }
     ensures write { IsErrOf result Stop.WriteFault → Rose (K.faults sink.old) (K.faults sink.new) }
+    ensures source_still { IsErrOf result Stop.ReadFault ⊎ (S.faults source.new ≡ S.faults source.old) }
+    ensures sink_still { IsErrOf result Stop.WriteFault ⊎ (K.faults sink.new ≡ K.faults sink.old) }
     ensures whole { IsErrOf result Stop.OutOfMemory ⊎ (session.new.failed ≡ false) }
 {
     let mut buffer = LineBuffer::new(alloc)?;
@@ -72,6 +74,7 @@ fn answer_last<'h, R: Threads + Sync, K: Sink, G: Gate>(
     ensures begun { AppendsPrefix (K.written sink.old) (K.written sink.new) (answers_from session.old.state (less_empty_end (buffer.now.bytes ∷ []))) }
     ensures stops { IsWriteStopOf result }
     ensures cause { IsErrOf result Stop.WriteFault → Rose (K.faults sink.old) (K.faults sink.new) }
+    ensures still { IsErrOf result Stop.WriteFault ⊎ (K.faults sink.new ≡ K.faults sink.old) }
     ensures whole { IsErrOf result Stop.OutOfMemory ⊎ (session.new.failed ≡ false) }
 {
     if buffer.len() == 0 {
@@ -94,7 +97,7 @@ fn read_one<S: Source>(source: &mut S) -> Result<Option<u8>, Stop>
     ensures kept { OnErr result (Keeps (S.left source.old) (S.left source.new)) }
     ensures stops { IsReadStopOf result }
     ensures cause { OnErr result (Rose (S.faults source.old) (S.faults source.new)) }
-    ensures later { S.faults source.old ≤ S.faults source.new }
+    ensures still { IsErrOf result Stop.ReadFault ⊎ (S.faults source.new ≡ S.faults source.old) }
 {
     let mut byte = [0u8; 1];
     match source.read(&mut byte) {

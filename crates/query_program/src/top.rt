@@ -31,8 +31,8 @@ pub struct Ended {
 /// |---|---|---|
 /// | 0 | the source was read to its end | all replies |
 /// | 2 | exactly where there are words | nothing; nothing was read |
-/// | 3 | only where the source's count of faults rose | the replies to the whole lines read |
-/// | 4 | only where the sink's count of faults rose | a first part of the replies to what was read |
+/// | 3 | exactly where the source's count of faults rose | the replies to the whole lines read |
+/// | 4 | exactly where the sink's count of faults rose | a first part of the replies to what was read |
 /// | 5 | memory was wanting | a first part of the replies to what was read |
 /// | 6 | exactly where a line passes 4,194,304 bytes without its newline | the replies to the lines before it |
 /// | 7 | exactly where more than 67,108,864 bytes come | the replies to the lines whose newline is among the first so many |
@@ -57,6 +57,8 @@ pub fn run<R: Threads + Sync, S: Source, K: Sink, G: Gate>(
     // Faults of the two ends.
     ensures read { result.status ≡ 3 → Rose (S.faults source.old) (S.faults source.new) }
     ensures write { result.status ≡ 4 → Rose (K.faults sink.old) (K.faults sink.new) }
+    ensures source_still { result.status ≢ 3 → S.faults source.new ≡ S.faults source.old }
+    ensures sink_still { result.status ≢ 4 → K.faults sink.new ≡ K.faults sink.old }
 
     // Where nothing hindered the run, its input alone decides between 0, 6 and 7.
     ensures line_too_long { IsUnhindered result.status → IfSome (S.left source.old) (λ input. (result.status ≡ 6) ↔ HasLongLine input) }
@@ -106,6 +108,8 @@ fn answer_input<R: Threads + Sync, S: Source, K: Sink, G: Gate>(
     ensures ends { IfSome (S.left source.old) (Ends empty (S.left source.new) (K.written sink.old) (K.written sink.new) result) }
     ensures read { IsErrOf result Stop.ReadFault → Rose (S.faults source.old) (S.faults source.new) }
     ensures write { IsErrOf result Stop.WriteFault → Rose (K.faults sink.old) (K.faults sink.new) }
+    ensures source_still { IsErrOf result Stop.ReadFault ⊎ (S.faults source.new ≡ S.faults source.old) }
+    ensures sink_still { IsErrOf result Stop.WriteFault ⊎ (K.faults sink.new ≡ K.faults sink.old) }
 {
     let mut session = Session::new(alloc, Pass::none(), 1)?;
     let end = answer_stream(rt, alloc, &mut session, source, sink, gate);

@@ -6,7 +6,7 @@ pub loop-at-preserved : goal.loop-at-preserved
 loop-at-preserved g c = record {
   grown = Appends-more _ _ _ c.args.bytes.now c.loop-at.at c.in-Ok.count c.loop-at.invariant.grown c.in-Ok.ensures.bytes.1;
   inside = search rules;
-  later = search rules;
+  still = search rules;
 }
 
 pub returns-in-Err-clause-begun : goal.returns-in-Err-clause-begun

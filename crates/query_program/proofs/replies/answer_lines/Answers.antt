@@ -20,7 +20,7 @@ lines-preserved g c =
       going = going-on _ _ _ _ _ _ _ _ _ _ _ _ going c.in_ok-answer_first.ensures.answered c.in_ok-send_large.ensures.sent;
       short = search rules;
       whole = search rules;
-      later = search rules;
+      still = search rules;
     }
 
 pub returns-in_err-send_large-clause-begun : goal.returns-in_err-send_large-clause-begun

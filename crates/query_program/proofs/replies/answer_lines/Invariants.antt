@@ -8,7 +8,7 @@ invariant-lines g l = record {
   going : Going l.fn.session.state l.session.state l.fn.buffer.bytes l.buffer.bytes (g.K.Sink.written l.fn.sink) (g.K.Sink.written l.sink) l.gathered.items;
   short : length l.buffer.bytes ≤ LINE_LIMIT + 1;
   whole : l.session.failed ≡ false;
-  later : g.K.Sink.faults l.fn.sink ≤ g.K.Sink.faults l.sink;
+  still : g.K.Sink.faults l.sink ≡ g.K.Sink.faults l.fn.sink;
 }
 
 abbrev pub decreases-lines : goal.decreases-lines

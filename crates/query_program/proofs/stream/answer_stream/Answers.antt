@@ -74,8 +74,8 @@ reads-preserved g c =
       fits = omega (arith, ap length answered.rest, c.is_full_of_one_line.ensures.short (search rules));
       empty = search rules;
       whole = search rules;
-      source_later = search rules;
-      sink_later = search rules;
+      source_still = search rules;
+      sink_still = search rules;
     }
 
 pub returns-in_err-read_one-clause-ends : goal.returns-in_err-read_one-clause-ends

@@ -10,8 +10,8 @@ invariant-reads g l = record {
   fits : length l.buffer.bytes ≤ LINE_LIMIT;
   empty : l.gathered.items ≡ [];
   whole : l.session.failed ≡ false;
-  source_later : g.S.Source.faults l.fn.source ≤ g.S.Source.faults l.source;
-  sink_later : g.K.Sink.faults l.fn.sink ≤ g.K.Sink.faults l.sink;
+  source_still : g.S.Source.faults l.source ≡ g.S.Source.faults l.fn.source;
+  sink_still : g.K.Sink.faults l.sink ≡ g.K.Sink.faults l.fn.sink;
 }
 
 abbrev pub decreases-reads : goal.decreases-reads
