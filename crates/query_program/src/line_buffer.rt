@@ -1,9 +1,9 @@
-ghost use Rattle.std.specs.Prelude.{◌≡◌, ℕ, ◌+◌, ◌-◌, ◌<◌, ◌≤◌, ◌++◌, ◌⊎◌, [], true, false, None, min, length, take, drop, IfOk, OnOk, OnErr, IsErrOf};
+ghost use Rattle.std.specs.Prelude.{◌≡◌, ◌+◌, ◌-◌, ◌<◌, ◌≤◌, ◌⊎◌, [], true, false, None, min, length, take, drop, IfOk, OnOk, OnErr, IsErrOf};
 ghost use Rattle.std.specs.Io.KnownBytes.{Consumes, IsAtEnd, Keeps};
 ghost use Rattle.memchr.specs.Find.{IsFirstByte, is_byte};
 ghost use Rattle.outside.specs.Causes.{Rose};
 ghost use Rattle.query_program.specs.Lines.{last_part};
-ghost use Rattle.query_program.specs.Reads.{Filled, IsReadStop, IsReadStopOf};
+ghost use Rattle.query_program.specs.Reads.{Filled, IsReadStopOf};
 
 use crate::limits::{FIRST_ROOM, LINE_LIMIT};
 use crate::stop::Stop;
