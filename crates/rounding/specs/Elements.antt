@@ -21,6 +21,10 @@ pub record ElementsOf (Element : Type 0) : Type 0 where
 abbrev pub IsElement : {Element : Type 0} → ElementsOf Element → ℕ → Element → Type 0
 IsElement of index element = (offset : ℕ) × (of.offset_of index ≡ Some offset) × (offset < of.count) × (element ≡ of.element_of offset)
 
+-- `index` is that of the element with an offset, or of the end
+abbrev pub IsIndexOf : {Element : Type 0} → ElementsOf Element → ℕ → ℕ → Type 0
+IsIndexOf of offset index = (offset ≤ of.count) × (index ≡ of.index_of offset)
+
 -- `next` is the index of the element after it, or of the end
 abbrev pub IsAfter : {Element : Type 0} → ElementsOf Element → ℕ → ℕ → Type 0
 IsAfter of index next = (offset : ℕ) × (of.offset_of index ≡ Some offset) × (offset < of.count) × (next ≡ of.index_of (offset + 1))
@@ -43,6 +47,10 @@ IsDistance of from to n = (offset : ℕ) × (other : ℕ) × (of.offset_of from 
 -- what a walk from the element with an offset that would leave the text is refused with, in code units of the storage
 abbrev pub leaves_text : {Element : Type 0} → ElementsOf Element → ℕ → OutOfBounds
 leaves_text of offset = record { position = of.place_of offset; low = low_of of.text; high = high_of of.text }
+
+-- there is no element with the offset, which is above the number of elements
+abbrev pub IsPastCount : {Element : Type 0} → ElementsOf Element → ℕ → OutOfBounds → Type 0
+IsPastCount of offset out = (of.count < offset) × (out ≡ record { position = offset; low = 0; high = of.count })
 
 -- the index is out of range, or rounded down to the offset `stop`, from where there is no way
 abbrev pub IsStopped : {Element : Type 0} → ElementsOf Element → ℕ → ℕ → OutOfBounds → Type 0

@@ -1,4 +1,4 @@
-//! A text that is a part of its storage, so that there are places before it and behind it.
+//! A text that is a part of its storage, so that there are places before it and after it.
 ghost use Rattle.std.specs.Prelude.{◌≡◌};
 
 use std::marker::Model;

@@ -144,7 +144,7 @@ fn resolve_other<T: Text, L: Ledger>(
 /// transcoded offset dropped; the answer is scalar aligned where it is a boundary. Each other index is read in code units
 /// of the storage, and the answer is not scalar aligned. Offsets are those of the storage's whole text.
 ///
-/// Refused exactly where the position lies before the text or behind its end, with the three numbers in the unit that the
+/// Refused exactly where the position lies before the text or past its end, with the three numbers in the unit that the
 /// index is read in. An index read in code units of the storage reads no word, another at most two for each scalar of the storage.
 /// Where the text is marked ASCII no word is read.
 pub fn resolve<T: Text, L: Ledger>(

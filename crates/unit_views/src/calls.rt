@@ -1,17 +1,17 @@
 //! The calls that every view has, by the view.
-ghost use Rattle.std.specs.Prelude.{◌-◌, ◌≡◌, ◌*◌, ◌+◌, ◌<◌, ◌≤◌, ◌^◌, true, false, IfOk, IfErr, length, Some};
+ghost use Rattle.std.specs.Prelude.{◌-◌, ◌≡◌, ◌*◌, ◌+◌, ◌<◌, ◌≤◌, true, false, IfOk, IfErr, length, Some};
 ghost use Rattle.std.specs.Int.RustNames.{unsigned_abs};
 ghost use Rattle.rounding.specs.Resolving.{reads_other};
 ghost use Rattle.unit_views.specs.declared.kind.ElementKind.TheVariants.{Scalars};
 ghost use Rattle.unit_views.specs.Elements.{is_own, element_count, element_index, element_offset, elements_of};
 ghost use Rattle.text_spec.specs.Offsets.{start};
 ghost use Rattle.word_units.specs.Parts.{low_of, scalars_before, scalars_in};
-ghost use Rattle.rounding.specs.Elements.{IsAfter, IsBefore, IsMoved, IsDistance, IsStopped, IsMoveOut};
+ghost use Rattle.rounding.specs.Elements.{IsAfter, IsBefore, IsMoved, IsDistance, IsStopped, IsMoveOut, IsIndexOf, IsPastCount};
 ghost use Rattle.rounding.specs.Refusals.{IsOutOfRange, IsEitherOut};
 ghost use Rattle.unit_views.specs.Spots.{IsSpot, spot_offset};
 
 use crate::spot::{Spot, index_of, leaving, spot_of};
-use crate::turns::{ahead, apart, behind, turn};
+use crate::turns::{apart, back, forward, turn};
 use crate::kind::{ElementKind, is_own};
 use crate::walk::elements_between;
 use index_words::Index;
@@ -27,10 +27,9 @@ pub fn start<T: Text>(t: &T, view: ElementKind) -> Index
     index_from(t.encoding(), low, 0)
 }
 
-/// The index behind the last element. No word is read.
+/// The index past the last element. No word is read.
 pub fn end<T: Text>(t: &T, view: ElementKind) -> Index
-    ensures { result ≡ element_index view (T.part t.now)
-        (element_count view (T.part t.now)) }
+    ensures { result ≡ element_index view (T.part t.now) (element_count view (T.part t.now)) }
 {
     let (_low, high) = bounds(t);
     index_from(t.encoding(), high, 0)
@@ -53,10 +52,7 @@ pub fn count<T: Text, L: Ledger>(t: &mut T, view: ElementKind, steps: &mut Steps
     elements_between(t, view, low, high, steps)
 }
 
-/// The index behind the element that an index is rounded down to.
-///
-/// Refused exactly where `resolve` refuses the index, with its numbers, and where it stands at the end, with that place and the
-/// text's bounds in code units of the storage.
+/// The index of the element after the one that an index is rounded down to, or of the end. Refused at the end.
 pub fn after<T: Text, L: Ledger>(
     t: &mut T,
     view: ElementKind,
@@ -64,28 +60,21 @@ pub fn after<T: Text, L: Ledger>(
     steps: &mut Steps<L>,
 ) -> Result<Index, OutOfBounds>
     ensures next { IfOk result (IsAfter (elements_of view (T.part t.old)) i) }
-    ensures refused { IfErr result (IsStopped (elements_of view (T.part t.old)) i
-        (element_count view (T.part t.old))) }
+    ensures refused { IfErr result (IsStopped (elements_of view (T.part t.old)) i (element_count view (T.part t.old))) }
     ensures kept { t.new ≡ t.old }
     ensures cost { steps.new ≤ steps.old + 2 * length (T.part t.old).whole + 14 }
     ensures near { reads_other (T.part t.old).storage i ≡ false → steps.new ≤ steps.old + 14 }
     ensures scalars { view ≡ Scalars → reads_other (T.part t.old).storage i ≡ false → steps.new ≤ steps.old + 4 }
     ensures unread { T.marked_ascii t.old ≡ true → steps.new ≡ steps.old }
 {
-    let spot = match spot_of(t, view, i, steps) {
-        Ok(spot) => spot,
-        Err(out) => return Err(out),
-    };
-    match ahead(t, view, spot, 1, steps) {
+    let spot = spot_of(t, view, i, steps)?;
+    match forward(t, view, spot, 1, steps) {
         Ok(next) => Ok(index_of(t, view, next, steps)),
         Err(_) => Err(leaving(t, view, spot)),
     }
 }
 
-/// The index of the element before the one that an index is rounded down to.
-///
-/// Refused exactly where `resolve` refuses the index, with its numbers, and where it stands at the start, with that place and the
-/// text's bounds in code units of the storage.
+/// The index of the element before the one that an index is rounded down to. Refused at the start.
 pub fn before<T: Text, L: Ledger>(
     t: &mut T,
     view: ElementKind,
@@ -100,20 +89,15 @@ pub fn before<T: Text, L: Ledger>(
     ensures scalars { view ≡ Scalars → reads_other (T.part t.old).storage i ≡ false → steps.new ≤ steps.old + 4 }
     ensures unread { T.marked_ascii t.old ≡ true → steps.new ≡ steps.old }
 {
-    let spot = match spot_of(t, view, i, steps) {
-        Ok(spot) => spot,
-        Err(out) => return Err(out),
-    };
-    match behind(t, view, spot, 1, steps) {
+    let spot = spot_of(t, view, i, steps)?;
+    match back(t, view, spot, 1, steps) {
         Some(previous) => Ok(index_of(t, view, previous, steps)),
         None => Err(leaving(t, view, spot)),
     }
 }
 
-/// The index of the element `n` elements behind the one that an index is rounded down to, or before it where `n` is negative.
-///
-/// Refused exactly where `resolve` refuses the index, with its numbers, and where that place is before the first element or past the
-/// end, with the place that the index is rounded down to and the text's bounds in code units of the storage.
+/// The index of the element `n` elements after the one that an index is rounded down to, or before it where `n` is negative.
+/// Refused where that is before the first element or past the end.
 pub fn offset_by<T: Text, L: Ledger>(
     t: &mut T,
     view: ElementKind,
@@ -129,10 +113,7 @@ pub fn offset_by<T: Text, L: Ledger>(
     ensures near { reads_other (T.part t.old).storage i ≡ false → steps.new ≤ steps.old + 4 * unsigned_abs n + 12 }
     ensures unread { T.marked_ascii t.old ≡ true → steps.new ≡ steps.old }
 {
-    let spot = match spot_of(t, view, i, steps) {
-        Ok(spot) => spot,
-        Err(out) => return Err(out),
-    };
+    let spot = spot_of(t, view, i, steps)?;
     match turn(t, view, spot, n, steps) {
         Some(there) => Ok(index_of(t, view, there, steps)),
         None => Err(leaving(t, view, spot)),
@@ -140,8 +121,6 @@ pub fn offset_by<T: Text, L: Ledger>(
 }
 
 /// How many elements lie from the one that an index is rounded down to, to another: below 0 where that is before it.
-///
-/// Refused exactly where `resolve` refuses the first index or, where it doesn't, the second, with its numbers.
 pub fn distance<T: Text, L: Ledger>(
     t: &mut T,
     view: ElementKind,
@@ -157,19 +136,15 @@ pub fn distance<T: Text, L: Ledger>(
         → steps.new ≤ steps.old + 2 * scalars_in (T.part t.old) + 8 }
     ensures unread { T.marked_ascii t.old ≡ true → steps.new ≡ steps.old }
 {
-    let start = match spot_of(t, view, from, steps) {
-        Ok(spot) => spot,
-        Err(out) => return Err(out),
-    };
-    let there = match spot_of(t, view, to, steps) {
-        Ok(spot) => spot,
-        Err(out) => return Err(out),
-    };
-    Ok(apart(t, view, start, there, steps))
+    let start = spot_of(t, view, from, steps)?;
+    match spot_of(t, view, to, steps) {
+        Ok(there) => Ok(apart(t, view, start, there, steps)),
+        Err(out) => Err(out),
+    }
 }
 
 /// The text's first element, or its end where there is none.
-pub fn start_spot<T: Text>(t: &T, view: ElementKind) -> Spot
+fn start_spot<T: Text>(t: &T, view: ElementKind) -> Spot
     ensures spot { IsSpot view (T.part t.now) result.at result.past }
     ensures offset { spot_offset view (T.part t.now) result.at result.past ≡ 0 }
     ensures place { (result.at ≡ low_of (T.part t.now)) × (result.past ≡ 0) }
@@ -178,61 +153,28 @@ pub fn start_spot<T: Text>(t: &T, view: ElementKind) -> Spot
     Spot { at: low, past: 0 }
 }
 
-/// The index of the element `n` elements on from an element or, where that is past the end, how many lie on from it.
-pub fn index_ahead<T: Text, L: Ledger>(
-    t: &mut T,
-    view: ElementKind,
-    spot: Spot,
-    n: u64,
-    steps: &mut Steps<L>,
-) -> Result<Index, u64>
-    requires spot { IsSpot view (T.part t.old) spot.at spot.past }
-    requires fits { spot.past + n < 2 ^ 64 }
-    ensures index { IfOk result (λ r. r ≡ element_index view (T.part t.old)
-        (spot_offset view (T.part t.old) spot.at spot.past + n)) }
-    ensures inside { IfOk result (λ r. spot_offset view (T.part t.old) spot.at spot.past + n
-        ≤ element_count view (T.part t.old)) }
-    ensures left { IfErr result (λ left. (spot_offset view (T.part t.old) spot.at spot.past + left
-        ≡ element_count view (T.part t.old)) × (left < n)) }
-    ensures kept { t.new ≡ t.old }
-    ensures across { is_own view (T.part t.old).storage ≡ false → steps.new ≤ steps.old + 2 * scalars_in (T.part t.old) }
-    ensures near { is_own view (T.part t.old).storage ≡ false → steps.new ≤ steps.old + 2 * (spot.past + n) }
-    ensures own { is_own view (T.part t.old).storage ≡ true → steps.new ≤ steps.old + 2 }
-    ensures unread { T.marked_ascii t.old ≡ true → steps.new ≡ steps.old }
-{
-    match ahead(t, view, spot, n, steps) {
-        Ok(there) => Ok(index_of(t, view, there, steps)),
-        Err(left) => Err(left),
-    }
-}
-
-/// The index of the element with an offset, which may be the number of elements.
+/// The element with an offset, or the end, as a place in the storage. Refused exactly where the offset is above their number.
 ///
-/// Refused exactly where the offset is above that number, with the offset, 0 and that number. Where the elements aren't the storage's
-/// code units, at most two words a scalar are read in one pass up to the element; where they are, at most the two words beside it.
-pub fn index_of_offset<T: Text, L: Ledger>(
+/// Where the text is marked ASCII, or the elements are the storage's code units, no word is read; else at most two a scalar, in one
+/// pass up to the element.
+pub fn spot_at<T: Text, L: Ledger>(
     t: &mut T,
     view: ElementKind,
     offset: u64,
     steps: &mut Steps<L>,
-) -> Result<Index, OutOfBounds>
-    ensures index { IfOk result (λ r. r ≡ element_index view (T.part t.old) offset) }
-    ensures inside { IfOk result (λ r. offset ≤ element_count view (T.part t.old)) }
-    ensures refused { IfErr result (λ out. element_count view (T.part t.old) < offset) }
-    ensures carries { IfErr result (λ out. out ≡ record {
-      position = offset;
-      low = 0;
-      high = element_count view (T.part t.old);
-    }) }
+) -> Result<Spot, OutOfBounds>
+    ensures spot { IfOk result (λ s. IsSpot view (T.part t.old) s.at s.past) }
+    ensures offset { IfOk result (λ s. spot_offset view (T.part t.old) s.at s.past ≡ offset) }
+    ensures refused { IfErr result (IsPastCount (elements_of view (T.part t.old)) offset) }
     ensures kept { t.new ≡ t.old }
-    ensures across { is_own view (T.part t.old).storage ≡ false → steps.new ≤ steps.old + 2 * scalars_in (T.part t.old) }
-    ensures near { is_own view (T.part t.old).storage ≡ false → steps.new ≤ steps.old + 2 * offset }
-    ensures own { is_own view (T.part t.old).storage ≡ true → steps.new ≤ steps.old + 2 }
+    ensures pass { steps.new ≤ steps.old + 2 * scalars_in (T.part t.old) }
+    ensures near { steps.new ≤ steps.old + 2 * offset }
+    ensures own { is_own view (T.part t.old).storage ≡ true → steps.new ≡ steps.old }
     ensures unread { T.marked_ascii t.old ≡ true → steps.new ≡ steps.old }
 {
     let start = start_spot(t, view);
-    match index_ahead(t, view, start, offset, steps) {
-        Ok(index) => Ok(index),
+    match forward(t, view, start, offset, steps) {
+        Ok(spot) => Ok(spot),
         Err(count) => Err(OutOfBounds {
             position: offset,
             low: 0,
@@ -241,8 +183,30 @@ pub fn index_of_offset<T: Text, L: Ledger>(
     }
 }
 
+/// The index of the element with an offset, or of the end. Refused exactly where the offset is above their number.
+///
+/// Where the text is marked ASCII no word is read; else at most two a scalar, in one pass up to the element, or, where the elements are
+/// the storage's code units, the two beside it.
+pub fn index_of_offset<T: Text, L: Ledger>(
+    t: &mut T,
+    view: ElementKind,
+    offset: u64,
+    steps: &mut Steps<L>,
+) -> Result<Index, OutOfBounds>
+    ensures index { IfOk result (IsIndexOf (elements_of view (T.part t.old)) offset) }
+    ensures refused { IfErr result (IsPastCount (elements_of view (T.part t.old)) offset) }
+    ensures kept { t.new ≡ t.old }
+    ensures across { is_own view (T.part t.old).storage ≡ false → steps.new ≤ steps.old + 2 * scalars_in (T.part t.old) }
+    ensures near { is_own view (T.part t.old).storage ≡ false → steps.new ≤ steps.old + 2 * offset }
+    ensures own { is_own view (T.part t.old).storage ≡ true → steps.new ≤ steps.old + 2 }
+    ensures unread { T.marked_ascii t.old ≡ true → steps.new ≡ steps.old }
+{
+    let spot = spot_at(t, view, offset, steps)?;
+    Ok(index_of(t, view, spot, steps))
+}
+
 /// How many elements lie before an element, from a boundary on that isn't after it.
-pub fn elements_from<T: Text, L: Ledger>(
+fn elements_from<T: Text, L: Ledger>(
     t: &mut T,
     view: ElementKind,
     from: Spot,
@@ -269,8 +233,7 @@ pub fn elements_from<T: Text, L: Ledger>(
 
 /// The offset of the element that an index is rounded down to.
 ///
-/// Refused exactly where `resolve` refuses the index, with its numbers. Where the text is marked ASCII no word is read; else at most
-/// two a scalar in one pass up to the element, at most four beside it, and those that resolving an index of the other encoding reads.
+/// Where the text is marked ASCII no word is read; else at most two a scalar in one pass up to the element, and four beside it.
 pub fn offset_of_index<T: Text, L: Ledger>(
     t: &mut T,
     view: ElementKind,
@@ -285,9 +248,6 @@ pub fn offset_of_index<T: Text, L: Ledger>(
     ensures unread { T.marked_ascii t.old ≡ true → steps.new ≡ steps.old }
 {
     let start = start_spot(t, view);
-    let spot = match spot_of(t, view, i, steps) {
-        Ok(spot) => spot,
-        Err(out) => return Err(out),
-    };
+    let spot = spot_of(t, view, i, steps)?;
     Ok(elements_from(t, view, start, spot, steps))
 }

@@ -1,4 +1,10 @@
 //! A text as Unicode scalars (The Unicode Standard, section 3.9, D76).
+//!
+//! A call reads an index as `rounding::resolve` does, rounds it down to an element, and goes on from there. It refuses what `resolve`
+//! refuses, with its numbers, and nothing else but what its own line names: a walk that would leave the text, with the place where it
+//! begins and the text's bounds. Resolving reads two words for each scalar of the storage where the index is an offset in the other
+//! encoding and the text isn't marked ASCII, and none elsewhere; the words that a call's line tells are those beside it. A text that is
+//! marked ASCII is read for its elements alone.
 ghost use Rattle.std.specs.Prelude.{◌-◌, ◌≡◌, ◌*◌, ◌+◌, ◌<◌, ◌≤◌, true, false, IfOk, IfErr, length};
 ghost use Rattle.std.specs.Int.RustNames.{unsigned_abs};
 ghost use Rattle.word_units.specs.Parts.{scalars_in};
@@ -9,8 +15,8 @@ ghost use Rattle.unit_views.specs.declared.kind.ElementKind.TheVariants.{Scalars
 ghost use Rattle.unit_views.specs.Elements.{element_count, element_index, elements_of};
 
 use crate::calls;
-use crate::spot::{leaving, spot_of};
 use crate::kind::ElementKind;
+use crate::spot::{leaving, spot_of};
 use index_words::Index;
 use rounding::bounds;
 use std::sync::ledger::Ledger;
@@ -23,17 +29,14 @@ pub fn start<T: Text>(t: &T) -> Index
     calls::start(t, ElementKind::Scalars)
 }
 
-/// The index behind the last scalar. No word is read.
+/// The index past the last scalar. No word is read.
 pub fn end<T: Text>(t: &T) -> Index
-    ensures { result ≡ element_index Scalars (T.part t.now)
-        (element_count Scalars (T.part t.now)) }
+    ensures { result ≡ element_index Scalars (T.part t.now) (element_count Scalars (T.part t.now)) }
 {
     calls::end(t, ElementKind::Scalars)
 }
 
-/// The number of scalars.
-///
-/// Where the text is marked ASCII no word is read; else at most two a scalar, in one pass.
+/// The number of scalars. At most two words a scalar are read, in one pass.
 pub fn count<T: Text, L: Ledger>(t: &mut T, steps: &mut Steps<L>) -> u64
     ensures value { result ≡ element_count Scalars (T.part t.old) }
     ensures kept { t.new ≡ t.old }
@@ -43,27 +46,20 @@ pub fn count<T: Text, L: Ledger>(t: &mut T, steps: &mut Steps<L>) -> u64
     calls::count(t, ElementKind::Scalars, steps)
 }
 
-/// The scalar that an index is rounded down to.
-///
-/// Refused exactly where `resolve` refuses the index, with its numbers, and where it stands at the end, with that place and the text's
-/// bounds in code units of the storage. At most four words are read, and those that resolving an index of the other encoding reads.
+/// The scalar that an index is rounded down to. Refused at the end. At most four words are read.
 pub fn element<T: Text, L: Ledger>(
     t: &mut T,
     i: Index,
     steps: &mut Steps<L>,
 ) -> Result<char, OutOfBounds>
     ensures element { IfOk result (IsElement (elements_of Scalars (T.part t.old)) i) }
-    ensures refused { IfErr result (IsStopped (elements_of Scalars (T.part t.old)) i
-        (element_count Scalars (T.part t.old))) }
+    ensures refused { IfErr result (IsStopped (elements_of Scalars (T.part t.old)) i (element_count Scalars (T.part t.old))) }
     ensures kept { t.new ≡ t.old }
     ensures cost { steps.new ≤ steps.old + 2 * length (T.part t.old).whole + 6 }
     ensures near { reads_other (T.part t.old).storage i ≡ false → steps.new ≤ steps.old + 4 }
 {
     let (_low, high) = bounds(t);
-    let spot = match spot_of(t, ElementKind::Scalars, i, steps) {
-        Ok(spot) => spot,
-        Err(out) => return Err(out),
-    };
+    let spot = spot_of(t, ElementKind::Scalars, i, steps)?;
     if spot.at == high {
         return Err(leaving(t, ElementKind::Scalars, spot));
     }
@@ -71,18 +67,14 @@ pub fn element<T: Text, L: Ledger>(
     Ok(scalar)
 }
 
-/// The index behind the scalar that an index is rounded down to.
-///
-/// Refused exactly where `resolve` refuses the index, with its numbers, and where it stands at the end, with that place and the text's
-/// bounds in code units of the storage. At most four words are read, and those that resolving an index of the other encoding reads.
+/// The index of the scalar after the one that an index is rounded down to, or of the end. Refused at the end. At most four words are read.
 pub fn after<T: Text, L: Ledger>(
     t: &mut T,
     i: Index,
     steps: &mut Steps<L>,
 ) -> Result<Index, OutOfBounds>
     ensures next { IfOk result (IsAfter (elements_of Scalars (T.part t.old)) i) }
-    ensures refused { IfErr result (IsStopped (elements_of Scalars (T.part t.old)) i
-        (element_count Scalars (T.part t.old))) }
+    ensures refused { IfErr result (IsStopped (elements_of Scalars (T.part t.old)) i (element_count Scalars (T.part t.old))) }
     ensures kept { t.new ≡ t.old }
     ensures cost { steps.new ≤ steps.old + 2 * length (T.part t.old).whole + 14 }
     ensures near { reads_other (T.part t.old).storage i ≡ false → steps.new ≤ steps.old + 4 }
@@ -91,10 +83,7 @@ pub fn after<T: Text, L: Ledger>(
     calls::after(t, ElementKind::Scalars, i, steps)
 }
 
-/// The index of the scalar before the one that an index is rounded down to.
-///
-/// Refused exactly where `resolve` refuses the index, with its numbers, and where it stands at the start, with that place and the text's
-/// bounds in code units of the storage. At most four words are read, and those that resolving an index of the other encoding reads.
+/// The index of the scalar before the one that an index is rounded down to. Refused at the start. At most four words are read.
 pub fn before<T: Text, L: Ledger>(
     t: &mut T,
     i: Index,
@@ -110,12 +99,9 @@ pub fn before<T: Text, L: Ledger>(
     calls::before(t, ElementKind::Scalars, i, steps)
 }
 
-/// The index of the scalar `n` scalars behind the one that an index is rounded down to, or before it where `n` is negative.
+/// The index of the scalar `n` scalars after the one that an index is rounded down to, or before it where `n` is negative.
 ///
-/// Refused exactly where `resolve` refuses the index, with its numbers, and where that place is before the first scalar or past the
-/// end, with the place that the index is rounded down to and the text's bounds in code units of the storage. Where the text is marked
-/// ASCII no word is read; else one pass from the index, at most four words a scalar, beside the six that the index and the answer take
-/// and those that resolving an index of the other encoding reads.
+/// Refused where that is before the first scalar or past the end. One pass from the index, at most four words a scalar, and six.
 pub fn offset_by<T: Text, L: Ledger>(
     t: &mut T,
     i: Index,
@@ -135,8 +121,7 @@ pub fn offset_by<T: Text, L: Ledger>(
 
 /// How many scalars lie from the one that an index is rounded down to, to another: below 0 where that is before it.
 ///
-/// Refused exactly where `resolve` refuses the first index or, where it doesn't, the second, with its numbers.
-/// Where the text is marked ASCII no word is read; else one pass from the earlier of the two, at most two words a scalar.
+/// The first index is refused before the second. One pass from the earlier of the two, at most two words a scalar.
 pub fn distance<T: Text, L: Ledger>(
     t: &mut T,
     from: Index,

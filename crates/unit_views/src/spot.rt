@@ -73,10 +73,7 @@ pub fn spot_of<T: Text, L: Ledger>(
     ensures unread { T.marked_ascii t.old ≡ true → steps.new ≡ steps.old }
 {
     let (_low, _high) = bounds(t);
-    let index = match resolve(t, i, steps) {
-        Ok(index) => index,
-        Err(out) => return Err(out),
-    };
+    let index = resolve(t, i, steps)?;
     Ok(floor_spot(t, view, index, steps))
 }
 

@@ -16,7 +16,7 @@ use std::sync::ledger::Ledger;
 use word_units::{Steps, Text};
 
 /// The element `n` elements on, where the elements aren't the storage's code units.
-fn ahead_across<T: Text, L: Ledger>(
+fn forward_across<T: Text, L: Ledger>(
     t: &mut T,
     view: ElementKind,
     spot: Spot,
@@ -49,7 +49,7 @@ fn ahead_across<T: Text, L: Ledger>(
 /// The element `n` elements on, or, where that is past the text's end, how many lie on from this one.
 ///
 /// Where the text is marked ASCII, or the elements are the storage's code units, no word is read; else at most two a scalar, in one pass.
-pub(crate) fn ahead<T: Text, L: Ledger>(
+pub(crate) fn forward<T: Text, L: Ledger>(
     t: &mut T,
     view: ElementKind,
     spot: Spot,
@@ -71,7 +71,7 @@ pub(crate) fn ahead<T: Text, L: Ledger>(
 {
     let (_low, high) = bounds(t);
     if !is_own(view, t.encoding()) {
-        return ahead_across(t, view, spot, n, steps);
+        return forward_across(t, view, spot, n, steps);
     }
     let left = high - spot.at;
     if n > left {
@@ -84,7 +84,7 @@ pub(crate) fn ahead<T: Text, L: Ledger>(
 }
 
 /// The element `n` elements back, where the elements aren't the storage's code units.
-fn behind_across<T: Text, L: Ledger>(
+fn back_across<T: Text, L: Ledger>(
     t: &mut T,
     view: ElementKind,
     spot: Spot,
@@ -120,7 +120,7 @@ fn behind_across<T: Text, L: Ledger>(
 ///
 /// Where the text is marked ASCII, or the elements are the storage's code units, no word is read; else at most four a scalar,
 /// and two where the elements are scalars, in one pass.
-pub(crate) fn behind<T: Text, L: Ledger>(
+pub(crate) fn back<T: Text, L: Ledger>(
     t: &mut T,
     view: ElementKind,
     spot: Spot,
@@ -140,7 +140,7 @@ pub(crate) fn behind<T: Text, L: Ledger>(
 {
     let (low, _high) = bounds(t);
     if !is_own(view, t.encoding()) {
-        return behind_across(t, view, spot, n, steps);
+        return back_across(t, view, spot, n, steps);
     }
     if n > spot.at - low {
         return None;
@@ -173,9 +173,9 @@ pub(crate) fn turn<T: Text, L: Ledger>(
 {
     let (_low, _high) = bounds(t);
     if n < 0 {
-        return behind(t, view, spot, n.unsigned_abs(), steps);
+        return back(t, view, spot, n.unsigned_abs(), steps);
     }
-    match ahead(t, view, spot, n.unsigned_abs(), steps) {
+    match forward(t, view, spot, n.unsigned_abs(), steps) {
         Ok(there) => Some(there),
         Err(_) => None,
     }

@@ -1,4 +1,10 @@
 //! A text as code units of UTF-8 (The Unicode Standard, section 3.9, D92).
+//!
+//! A call reads an index as `rounding::resolve` does, rounds it down to an element, and goes on from there. It refuses what `resolve`
+//! refuses, with its numbers, and nothing else but what its own line names: a walk that would leave the text, with the place where it
+//! begins and the text's bounds. Resolving reads two words for each scalar of the storage where the index is an offset in the other
+//! encoding and the text isn't marked ASCII, and none elsewhere; the words that a call's line tells are those beside it. A text that is
+//! marked ASCII is read for its elements alone.
 ghost use Rattle.std.specs.Char.{encode_utf8, len_utf8};
 ghost use Rattle.text_spec.specs.Offsets.{start};
 ghost use Rattle.text_spec.specs.Views.{part};
@@ -29,17 +35,14 @@ pub fn start<T: Text>(t: &T) -> Index
     calls::start(t, ElementKind::Units(Encoding::Utf8))
 }
 
-/// The index behind the last code unit. No word is read.
+/// The index past the last code unit. No word is read.
 pub fn end<T: Text>(t: &T) -> Index
-    ensures { result ≡ element_index (Units Utf8) (T.part t.now)
-        (element_count (Units Utf8) (T.part t.now)) }
+    ensures { result ≡ element_index (Units Utf8) (T.part t.now) (element_count (Units Utf8) (T.part t.now)) }
 {
     calls::end(t, ElementKind::Units(Encoding::Utf8))
 }
 
-/// The number of code units.
-///
-/// In UTF-8 storage, and where the text is marked ASCII, no word is read; else at most two a scalar, in one pass.
+/// The number of code units. No word is read in UTF-8 storage; elsewhere: At most two words a scalar are read, in one pass.
 pub fn count<T: Text, L: Ledger>(t: &mut T, steps: &mut Steps<L>) -> u64
     ensures value { result ≡ element_count (Units Utf8) (T.part t.old) }
     ensures kept { t.new ≡ t.old }
@@ -50,27 +53,20 @@ pub fn count<T: Text, L: Ledger>(t: &mut T, steps: &mut Steps<L>) -> u64
     calls::count(t, ElementKind::Units(Encoding::Utf8), steps)
 }
 
-/// The code unit that an index is rounded down to.
-///
-/// Refused exactly where `resolve` refuses the index, with its numbers, and where it stands at the end, with that place and the text's
-/// bounds in code units of the storage. At most six words are read, and those that resolving an index of the other encoding reads.
+/// The code unit that an index is rounded down to. Refused at the end. At most six words are read.
 pub fn element<T: Text, L: Ledger>(
     t: &mut T,
     i: Index,
     steps: &mut Steps<L>,
 ) -> Result<u8, OutOfBounds>
     ensures element { IfOk result (IsElement (elements_of (Units Utf8) (T.part t.old)) i) }
-    ensures refused { IfErr result (IsStopped (elements_of (Units Utf8) (T.part t.old)) i
-        (element_count (Units Utf8) (T.part t.old))) }
+    ensures refused { IfErr result (IsStopped (elements_of (Units Utf8) (T.part t.old)) i (element_count (Units Utf8) (T.part t.old))) }
     ensures kept { t.new ≡ t.old }
     ensures cost { steps.new ≤ steps.old + 2 * length (T.part t.old).whole + 6 }
     ensures near { reads_other (T.part t.old).storage i ≡ false → steps.new ≤ steps.old + 6 }
 {
     let (_low, high) = bounds(t);
-    let spot = match spot_of(t, ElementKind::Units(Encoding::Utf8), i, steps) {
-        Ok(spot) => spot,
-        Err(out) => return Err(out),
-    };
+    let spot = spot_of(t, ElementKind::Units(Encoding::Utf8), i, steps)?;
     if spot.at == high {
         return Err(leaving(t, ElementKind::Units(Encoding::Utf8), spot));
     }
@@ -105,18 +101,14 @@ fn byte_of_scalar(scalar: char, past: u64) -> u8
     scalar.encode_utf8(&mut bytes).as_bytes()[past as usize]
 }
 
-/// The index behind the code unit that an index is rounded down to.
-///
-/// Refused exactly where `resolve` refuses the index, with its numbers, and where it stands at the end, with that place and the text's
-/// bounds in code units of the storage. At most 14 words are read, and those that resolving an index of the other encoding reads.
+/// The index of the code unit after the one that an index is rounded down to, or of the end. Refused at the end. At most 14 words are read.
 pub fn after<T: Text, L: Ledger>(
     t: &mut T,
     i: Index,
     steps: &mut Steps<L>,
 ) -> Result<Index, OutOfBounds>
     ensures next { IfOk result (IsAfter (elements_of (Units Utf8) (T.part t.old)) i) }
-    ensures refused { IfErr result (IsStopped (elements_of (Units Utf8) (T.part t.old)) i
-        (element_count (Units Utf8) (T.part t.old))) }
+    ensures refused { IfErr result (IsStopped (elements_of (Units Utf8) (T.part t.old)) i (element_count (Units Utf8) (T.part t.old))) }
     ensures kept { t.new ≡ t.old }
     ensures cost { steps.new ≤ steps.old + 2 * length (T.part t.old).whole + 14 }
     ensures near { reads_other (T.part t.old).storage i ≡ false → steps.new ≤ steps.old + 14 }
@@ -125,10 +117,7 @@ pub fn after<T: Text, L: Ledger>(
     calls::after(t, ElementKind::Units(Encoding::Utf8), i, steps)
 }
 
-/// The index of the code unit before the one that an index is rounded down to.
-///
-/// Refused exactly where `resolve` refuses the index, with its numbers, and where it stands at the start, with that place and the text's
-/// bounds in code units of the storage. At most ten words are read, and those that resolving an index of the other encoding reads.
+/// The index of the code unit before the one that an index is rounded down to. Refused at the start. At most ten words are read.
 pub fn before<T: Text, L: Ledger>(
     t: &mut T,
     i: Index,
@@ -144,12 +133,9 @@ pub fn before<T: Text, L: Ledger>(
     calls::before(t, ElementKind::Units(Encoding::Utf8), i, steps)
 }
 
-/// The index of the code unit `n` code units behind the one that an index is rounded down to, or before it where `n` is negative.
+/// The index of the code unit `n` code units after the one that an index is rounded down to, or before it where `n` is negative.
 ///
-/// Refused exactly where `resolve` refuses the index, with its numbers, and where that place is before the first code unit or past the
-/// end, with the place that the index is rounded down to and the text's bounds in code units of the storage. Where the text is marked
-/// ASCII no word is read; else one pass from the index, at most four words a scalar, beside the six that the index and the answer take
-/// and those that resolving an index of the other encoding reads.
+/// Refused where that is before the first code unit or past the end. One pass from the index, at most four words a scalar, and six.
 pub fn offset_by<T: Text, L: Ledger>(
     t: &mut T,
     i: Index,
@@ -169,8 +155,7 @@ pub fn offset_by<T: Text, L: Ledger>(
 
 /// How many code units lie from the one that an index is rounded down to, to another: below 0 where that is before it.
 ///
-/// Refused exactly where `resolve` refuses the first index or, where it doesn't, the second, with its numbers.
-/// Where the text is marked ASCII no word is read; else, in UTF-16 storage, one pass from the earlier of the two, at most two words a scalar.
+/// The first index is refused before the second. No word is read in UTF-8 storage; elsewhere: One pass from the earlier of the two, at most two words a scalar.
 pub fn distance<T: Text, L: Ledger>(
     t: &mut T,
     from: Index,

@@ -99,10 +99,10 @@ unit-packed units p fits h =
     ap (λ w. w / 2 ^ (16 * (p % 4)) % 65536) (get_or-map-range_with_len (unit_word units) 0 (content_words Utf16 (length units)) (p / 4) (p / 4) 0 (omega arith) (omega arith))
     ∙ unit-of_word units (p / 4) (p % 4) fits (omega arith) ∙ ap (slice_index units) (omega arith)
 
-bytes-packed : (bytes : List ℕ) → ((i : ℕ) → slice_index bytes i < 2 ^ 8) → bytes_of (byte_words bytes) (length bytes) ≡ bytes
+pub bytes-packed : (bytes : List ℕ) → ((i : ℕ) → slice_index bytes i < 2 ^ 8) → bytes_of (byte_words bytes) (length bytes) ≡ bytes
 bytes-packed bytes fits = sym (fill_by_all (byte_of (byte_words bytes)) bytes (length bytes) 0 refl (λ k h. sym (byte-packed bytes k fits h)))
 
-units-packed : (units : List ℕ) → ((i : ℕ) → slice_index units i < 2 ^ 16) → units_of (unit_words units) (length units) ≡ units
+pub units-packed : (units : List ℕ) → ((i : ℕ) → slice_index units i < 2 ^ 16) → units_of (unit_words units) (length units) ≡ units
 units-packed units fits = sym (fill_by_all (unit_of (unit_words units)) units (length units) 0 refl (λ k h. sym (unit-packed units k fits h)))
 
 -- ---- the text that the words denote

@@ -3,7 +3,7 @@ ghost use Rattle.std.specs.Prelude.{◌≡◌, ◌+◌, ◌*◌, ◌<◌, ◌≤
 ghost use Rattle.std.specs.Int.{w64, from_le_bytes};
 ghost use Rattle.word_units.specs.Packing as packing;
 
-/// Word `k` of bytes: bytes `8 * k` on, least first, and zeros behind the last.
+/// Word `k` of bytes: bytes `8 * k` on, least first, and zeros past the last.
 pub fn byte_word(bytes: &[u8], k: usize) -> u64
     requires { 8 * k < length bytes.now }
     ensures { result ≡ packing.byte_word bytes.now k }
@@ -36,7 +36,7 @@ fn last_word(bytes: &[u8]) -> u64
     u64::from_le_bytes(block)
 }
 
-/// Word `k` of 16-bit units: units `4 * k` on, least first, and zeros behind the last.
+/// Word `k` of 16-bit units: units `4 * k` on, least first, and zeros past the last.
 pub fn unit_word(units: &[u16], k: usize) -> u64
     requires { 4 * k < length units.now }
     ensures { result ≡ packing.unit_word units.now k }
@@ -47,7 +47,7 @@ pub fn unit_word(units: &[u16], k: usize) -> u64
         + ((unit_or_zero(units, 4 * k + 3) as u64) << 48)
 }
 
-/// Unit `p`, or zero behind the last.
+/// Unit `p`, or zero past the last.
 pub fn unit_or_zero(units: &[u16], p: usize) -> u16
     ensures { result ≡ slice_index units.now p }
 {

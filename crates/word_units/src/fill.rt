@@ -11,7 +11,7 @@ use crate::steps::Steps;
 use crate::text::Text;
 use std::sync::ledger::Ledger;
 
-/// Writes the UTF-8 of a scalar behind the first `size` bytes of a buffer, and answers how many there are then.
+/// Writes the UTF-8 of a scalar after the first `size` bytes of a buffer, and answers how many there are then.
 fn put(buf: &mut [u8; 64], size: usize, scalar: char) -> usize
     requires { size + len_utf8 scalar ≤ 64 }
     ensures bytes { take result buf.new ≡ take size buf.old ++ encode_utf8 scalar }
@@ -24,7 +24,7 @@ fn put(buf: &mut [u8; 64], size: usize, scalar: char) -> usize
     end
 }
 
-/// Writes the UTF-8 of whole scalars from `p` on, as many as fit before `to`. Answers the bytes written and the place behind them.
+/// Writes the UTF-8 of whole scalars from `p` on, as many as fit before `to`. Answers the bytes written and the place where they end.
 fn fill<T: Text, L: Ledger>(
     t: &mut T,
     p: u64,
@@ -61,7 +61,7 @@ fn fill<T: Text, L: Ledger>(
 
 /// Writes the UTF-8 of whole scalars from `p` on into the front of `buf`, as many as fit before the text's end.
 ///
-/// Answers how many bytes it wrote, at most 64, and the place behind the last scalar. `p` is a scalar boundary of the text, in code
+/// Answers how many bytes it wrote, at most 64, and the place where the last scalar ends. `p` is a scalar boundary of the text, in code
 /// units of the storage. At most two words a scalar are read, and those of one more.
 pub fn fill_forward<T: Text, L: Ledger>(
     t: &mut T,
@@ -124,7 +124,7 @@ fn reach_back<T: Text, L: Ledger>(t: &mut T, p: u64, steps: &mut Steps<L>) -> u6
     from
 }
 
-/// Writes the UTF-8 of the last scalars before `p` into the front of `buf`, in the order of the text, as many as fit behind its start.
+/// Writes the UTF-8 of the last scalars before `p` into the front of `buf`, in the order of the text, as many as fit after the text's start.
 ///
 /// Answers how many bytes it wrote, at most 64, and the place of the first scalar. `p` is a scalar boundary of the text, in code
 /// units of the storage. At most six words a scalar are read, and those of one more.

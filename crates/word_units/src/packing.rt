@@ -20,7 +20,7 @@ pub(crate) fn unit_in(word: u64, p: u64) -> u16
     ((word >> (16 * (p % 4))) % 65536) as u16
 }
 
-/// The byte at `q`, out of the word of `p` or that of a place behind it.
+/// The byte at `q`, out of the word of `p` or that of a place after it.
 pub(crate) fn byte_of_two(near: u64, far: u64, p: u64, q: u64) -> u8
     ensures { (words : List ℕ) → near ≡ slice_index words (p / 8) → (q / 8 ≢ p / 8 → far ≡ slice_index words (q / 8))
         → result ≡ byte_of words q }
@@ -124,7 +124,7 @@ fn lone_unit(unit: u16) -> u16
     unit
 }
 
-/// The code of the scalar that begins with `unit`, and how many units it takes; `next` is the unit behind it, or 0.
+/// The code of the scalar that begins with `unit`, and how many units it takes; `next` is the unit after it, or 0.
 pub(crate) fn code_of_units(unit: u16, next: u16) -> (u32, u32)
     ensures pair { IsPair unit next → (result.0 ≡ surrogate_pair_char unit next) × (result.1 ≡ 2) }
     ensures alone { ¬ IsPair unit next → (result.0 ≡ unwrap_or (lone_unit_char unit) 0xFFFD) × (result.1 ≡ 1) }

@@ -18,7 +18,7 @@ use text_spec::Encoding;
 /// The high bit of each byte of a word: none is set where the eight bytes are ASCII.
 const HIGH_BITS: u64 = 0x8080_8080_8080_8080;
 
-/// How far the scalars that begin in a word of UTF-8 reach from a place in it, in bytes, at most: the last may end three bytes behind it.
+/// How far the scalars that begin in a word of UTF-8 reach from a place in it, in bytes, at most: the last may end three bytes past it.
 const REACH: u64 = 11;
 
 /// How many bytes of UTF-8 the scalars of a word of UTF-16 take at most.

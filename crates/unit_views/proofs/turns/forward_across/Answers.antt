@@ -1,8 +1,8 @@
 use Rattle.std.proofs.Common.{refl, arith}
 use Rattle.unit_views.proofs.Between.{order_of}
 use Rattle.unit_views.proofs.Moves.{ahead_spot, ahead_end, spot_numbers}
-use Rattle.unit_views.proofs.turns.ahead_across.Goals as goal
-use Rattle.unit_views.proofs.turns.ahead_across.Goals.{else-at-high-via-then-at-high+else-past-gt0, else-at-high-via-else-at-high}
+use Rattle.unit_views.proofs.turns.forward_across.Goals as goal
+use Rattle.unit_views.proofs.turns.forward_across.Goals.{else-at-high-via-then-at-high+else-past-gt0, else-at-high-via-else-at-high}
 
 pub overflow_sub-result : goal.overflow_sub-result
 overflow_sub-result g c =

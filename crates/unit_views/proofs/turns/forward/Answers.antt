@@ -2,7 +2,7 @@ use Rattle.std.proofs.Common.{sym, ap, ◌∙◌, ◌+◌, arith}
 use Rattle.unit_views.specs.Elements.{is_own}
 use Rattle.unit_views.proofs.Between.{order_of}
 use Rattle.unit_views.proofs.Moves.{offset_own_spot, count_own, own_moved}
-use Rattle.unit_views.proofs.turns.ahead.Goals as goal
+use Rattle.unit_views.proofs.turns.forward.Goals as goal
 
 pub returns-then-n-left-clause-left : goal.returns-then-n-left-clause-left
 returns-then-n-left-clause-left g c =

@@ -1,7 +1,7 @@
 use Rattle.std.proofs.Common.{arith}
 use Rattle.unit_views.proofs.Between.{order_of}
 use Rattle.unit_views.proofs.Moves.{near_spot, back_spot, spot_numbers}
-use Rattle.unit_views.proofs.turns.behind_across.Goals as goal
+use Rattle.unit_views.proofs.turns.back_across.Goals as goal
 
 pub returns-then-n-spot-clause-spot : goal.returns-then-n-spot-clause-spot
 returns-then-n-spot-clause-spot g c =
