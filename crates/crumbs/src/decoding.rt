@@ -6,7 +6,7 @@ ghost use Rattle.crumbs.specs.Fitting.{BeginsScalar};
 
 use word_units::width_of_lead;
 
-/// Byte `p` of content words, and 0 behind them.
+/// Byte `p` of content words, and 0 past them.
 fn byte_or_zero(content: &[u64], p: u64) -> u8
     ensures { result ≡ byte_of content.now p }
 {

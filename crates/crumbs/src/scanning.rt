@@ -19,7 +19,7 @@ pub(crate) enum Limit {
     Unit(u64),
 }
 
-/// Whether what ends at byte `end`, with `units` UTF-16 units before its end, ends behind a limit.
+/// Whether what ends at byte `end`, with `units` UTF-16 units before its end, ends after a limit.
 fn is_behind(limit: Limit, end: u64, units: u64) -> bool
     ensures { result ≡ ends_behind limit end units }
 {
@@ -52,7 +52,7 @@ fn end_of_word(at: u64, count: u64) -> u64
     if end < count { end } else { count }
 }
 
-/// The scalar that covers a limit, of those that begin in the word of byte `at` from there on; where none does, what lies behind them,
+/// The scalar that covers a limit, of those that begin in the word of byte `at` from there on; where none does, what lies after them,
 /// which takes 0.
 ///
 /// `word` is that word, and `units` lie before the boundary `at`.

@@ -1,13 +1,12 @@
 //! Questions about offsets that start from a breadcrumb.
-ghost use Rattle.std.specs.Prelude.{◌≡◌, ℕ, ◌+◌, ◌/◌, ◌^◌, ◌<◌, ◌≤◌, true, false, Some, IfOk, IfErr};
+ghost use Rattle.std.specs.Prelude.{◌≡◌, ◌+◌, ◌<◌, ◌≤◌, true, false, Some, IfOk, IfErr};
 ghost use Rattle.rounding.specs.Resolving.{reads_other};
-ghost use Rattle.index_words.specs.Crumbs.{size16};
-ghost use Rattle.index_words.specs.Fields.{position_of};
-ghost use Rattle.crumbs.specs.Searching.{IsLastCrumb, words_to_unit, words_to_byte};
+ghost use Rattle.crumbs.specs.Searching.{words_to_unit, FewFromCrumb, MostFromCrumb, LeastFromCrumb};
 ghost use Rattle.text_spec.specs.declared.encoding.Encoding.TheVariants.{Utf8, Utf16};
 ghost use Rattle.rounding.specs.Refusals.{IsOutOfRange};
+ghost use Rattle.rounding.specs.Elements.{IsIndexOf, IsPastCount};
 ghost use Rattle.unit_views.specs.declared.kind.ElementKind.TheVariants.{Units};
-ghost use Rattle.unit_views.specs.Elements.{element_count, element_offset, element_index};
+ghost use Rattle.unit_views.specs.Elements.{element_offset, elements_of};
 
 use index_words::Index;
 use rounding::bounds;
@@ -39,14 +38,8 @@ pub(crate) fn index_from_crumb<T: Text, L: Ledger>(
 ) -> Result<Index, OutOfBounds>
     requires known { T.knows_crumbs t.old ≡ true }
     requires some { 1 ≤ T.STRIDE }
-    ensures index { IfOk result (λ r. r ≡ element_index (Units Utf16) (T.part t.old) offset) }
-    ensures inside { IfOk result (λ r. offset ≤ element_count (Units Utf16) (T.part t.old)) }
-    ensures refused { IfErr result (λ out. element_count (Units Utf16) (T.part t.old) < offset) }
-    ensures carries { IfErr result (λ out. out ≡ record {
-      position = offset;
-      low = 0;
-      high = element_count (Units Utf16) (T.part t.old);
-    }) }
+    ensures index { IfOk result (IsIndexOf (elements_of (Units Utf16) (T.part t.old)) offset) }
+    ensures refused { IfErr result (IsPastCount (elements_of (Units Utf16) (T.part t.old)) offset) }
     ensures kept { t.new ≡ t.old }
     ensures cost { IfOk result (λ r. steps.new ≡ steps.old + words_to_unit (T.part t.old).whole T.STRIDE offset) }
     ensures few { steps.new ≤ steps.old + T.STRIDE + 2 }
@@ -71,11 +64,9 @@ pub(crate) fn offset_from_crumb<T: Text, L: Ledger>(
     ensures offset { IfOk result (λ offset. element_offset (Units Utf16) (T.part t.old) i ≡ Some offset) }
     ensures refused { IfErr result (IsOutOfRange (T.part t.old) i) }
     ensures kept { t.new ≡ t.old }
-    ensures cost { (m crumb digits : ℕ) → IsLastCrumb (T.part t.old).whole T.STRIDE i m crumb → size16 (T.part t.old).whole / T.STRIDE < 2 ^ digits
-        → steps.new ≤ steps.old + words_to_byte (T.part t.old).whole m (position_of i) + 2 + digits }
-    ensures counted { IfOk result (λ offset. (m crumb digits : ℕ) → IsLastCrumb (T.part t.old).whole T.STRIDE i m crumb → 2 ^ digits ≤ size16 (T.part t.old).whole / T.STRIDE + 1
-        → steps.old + words_to_byte (T.part t.old).whole m (position_of i) + 2 + digits ≤ steps.new) }
-    ensures few { (digits : ℕ) → size16 (T.part t.old).whole / T.STRIDE < 2 ^ digits → steps.new ≤ steps.old + T.STRIDE + 2 + digits }
+    ensures cost { MostFromCrumb (T.part t.old).whole T.STRIDE i steps.old steps.new }
+    ensures counted { IfOk result (λ offset. LeastFromCrumb (T.part t.old).whole T.STRIDE i steps.old steps.new) }
+    ensures few { FewFromCrumb (T.part t.old).whole T.STRIDE steps.old steps.new }
 {
     let _known = t.crumbs_known();
     let position = i.position();

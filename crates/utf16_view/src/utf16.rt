@@ -1,18 +1,23 @@
 //! A text as code units of UTF-16 (The Unicode Standard, section 3.9, D91).
+//!
+//! A call reads an index as `rounding::resolve` does, rounds it down to an element, and goes on from there. It refuses what `resolve`
+//! refuses, with its numbers, and nothing else but what its own line names: a walk that would leave the text, with the place where it
+//! begins and the text's bounds. Resolving reads two words for each scalar of the storage where the index is an offset in the other
+//! encoding and the text isn't marked ASCII, and none elsewhere; the words that a call's line tells are those beside it. A text that is
+//! marked ASCII is read for its elements alone.
 ghost use Rattle.std.specs.Char.Escape.{encode_utf16};
-ghost use Rattle.index_words.specs.Crumbs.{size16, crumbs};
-ghost use Rattle.index_words.specs.Fields.{position_of};
-ghost use Rattle.crumbs.specs.Searching.{IsLastCrumb, words_to_unit, words_to_byte};
+ghost use Rattle.index_words.specs.Crumbs.{crumbs};
+ghost use Rattle.crumbs.specs.Searching.{words_to_unit, FewFromCrumb, MostFromCrumb, LeastFromCrumb};
 ghost use Rattle.text_spec.specs.Offsets.{start, len_utf16};
 ghost use Rattle.text_spec.specs.Views.{part};
 ghost use Rattle.unit_views.specs.Spots.{IsSpot, spot_offset};
-ghost use Rattle.std.specs.Prelude.{◌-◌, slice_index, ◌≡◌, ◌*◌, ◌+◌, ◌<◌, ◌≤◌, true, false, Some, IfOk, IfErr, length, ℕ, ◌/◌, ◌^◌};
+ghost use Rattle.std.specs.Prelude.{◌-◌, slice_index, ◌≡◌, ◌*◌, ◌+◌, ◌<◌, ◌≤◌, true, false, Some, IfOk, IfErr, length};
 ghost use Rattle.std.specs.Int.RustNames.{unsigned_abs};
 ghost use Rattle.rounding.specs.Resolving.{reads_other};
 ghost use Rattle.unit_views.specs.declared.kind.ElementKind.TheVariants.{Units};
 ghost use Rattle.text_spec.specs.declared.encoding.Encoding.TheVariants.{Utf8, Utf16};
 ghost use Rattle.word_units.specs.Parts.{high_of, scalars_in, text_in};
-ghost use Rattle.rounding.specs.Elements.{IsElement, IsAfter, IsBefore, IsMoved, IsDistance, IsStopped, IsMoveOut};
+ghost use Rattle.rounding.specs.Elements.{IsElement, IsAfter, IsBefore, IsMoved, IsDistance, IsStopped, IsMoveOut, IsIndexOf, IsPastCount};
 ghost use Rattle.rounding.specs.Refusals.{IsOutOfRange, IsEitherOut};
 ghost use Rattle.unit_views.specs.Elements.{elements, element_count, element_offset, element_index, elements_of};
 
@@ -31,17 +36,14 @@ pub fn start<T: Text>(t: &T) -> Index
     calls::start(t, ElementKind::Units(Encoding::Utf16))
 }
 
-/// The index behind the last code unit. No word is read.
+/// The index past the last code unit. No word is read.
 pub fn end<T: Text>(t: &T) -> Index
-    ensures { result ≡ element_index (Units Utf16) (T.part t.now)
-        (element_count (Units Utf16) (T.part t.now)) }
+    ensures { result ≡ element_index (Units Utf16) (T.part t.now) (element_count (Units Utf16) (T.part t.now)) }
 {
     calls::end(t, ElementKind::Units(Encoding::Utf16))
 }
 
-/// The number of code units.
-///
-/// In UTF-16 storage, and where the text is marked ASCII, no word is read; else at most two a scalar, in one pass.
+/// The number of code units. No word is read in UTF-16 storage; elsewhere: At most two words a scalar are read, in one pass.
 pub fn count<T: Text, L: Ledger>(t: &mut T, steps: &mut Steps<L>) -> u64
     ensures value { result ≡ element_count (Units Utf16) (T.part t.old) }
     ensures kept { t.new ≡ t.old }
@@ -52,27 +54,20 @@ pub fn count<T: Text, L: Ledger>(t: &mut T, steps: &mut Steps<L>) -> u64
     calls::count(t, ElementKind::Units(Encoding::Utf16), steps)
 }
 
-/// The code unit that an index is rounded down to.
-///
-/// Refused exactly where `resolve` refuses the index, with its numbers, and where it stands at the end, with that place and the text's
-/// bounds in code units of the storage. At most six words are read, and those that resolving an index of the other encoding reads.
+/// The code unit that an index is rounded down to. Refused at the end. At most six words are read.
 pub fn element<T: Text, L: Ledger>(
     t: &mut T,
     i: Index,
     steps: &mut Steps<L>,
 ) -> Result<u16, OutOfBounds>
     ensures element { IfOk result (IsElement (elements_of (Units Utf16) (T.part t.old)) i) }
-    ensures refused { IfErr result (IsStopped (elements_of (Units Utf16) (T.part t.old)) i
-        (element_count (Units Utf16) (T.part t.old))) }
+    ensures refused { IfErr result (IsStopped (elements_of (Units Utf16) (T.part t.old)) i (element_count (Units Utf16) (T.part t.old))) }
     ensures kept { t.new ≡ t.old }
     ensures cost { steps.new ≤ steps.old + 2 * length (T.part t.old).whole + 6 }
     ensures near { reads_other (T.part t.old).storage i ≡ false → steps.new ≤ steps.old + 6 }
 {
     let (_low, high) = bounds(t);
-    let spot = match spot_of(t, ElementKind::Units(Encoding::Utf16), i, steps) {
-        Ok(spot) => spot,
-        Err(out) => return Err(out),
-    };
+    let spot = spot_of(t, ElementKind::Units(Encoding::Utf16), i, steps)?;
     if spot.at == high {
         return Err(leaving(t, ElementKind::Units(Encoding::Utf16), spot));
     }
@@ -107,18 +102,14 @@ fn unit_of_scalar(scalar: char, past: u64) -> u16
     scalar.encode_utf16(&mut units)[past as usize]
 }
 
-/// The index behind the code unit that an index is rounded down to.
-///
-/// Refused exactly where `resolve` refuses the index, with its numbers, and where it stands at the end, with that place and the text's
-/// bounds in code units of the storage. At most 14 words are read, and those that resolving an index of the other encoding reads.
+/// The index of the code unit after the one that an index is rounded down to, or of the end. Refused at the end. At most 14 words are read.
 pub fn after<T: Text, L: Ledger>(
     t: &mut T,
     i: Index,
     steps: &mut Steps<L>,
 ) -> Result<Index, OutOfBounds>
     ensures next { IfOk result (IsAfter (elements_of (Units Utf16) (T.part t.old)) i) }
-    ensures refused { IfErr result (IsStopped (elements_of (Units Utf16) (T.part t.old)) i
-        (element_count (Units Utf16) (T.part t.old))) }
+    ensures refused { IfErr result (IsStopped (elements_of (Units Utf16) (T.part t.old)) i (element_count (Units Utf16) (T.part t.old))) }
     ensures kept { t.new ≡ t.old }
     ensures cost { steps.new ≤ steps.old + 2 * length (T.part t.old).whole + 14 }
     ensures near { reads_other (T.part t.old).storage i ≡ false → steps.new ≤ steps.old + 14 }
@@ -127,10 +118,7 @@ pub fn after<T: Text, L: Ledger>(
     calls::after(t, ElementKind::Units(Encoding::Utf16), i, steps)
 }
 
-/// The index of the code unit before the one that an index is rounded down to.
-///
-/// Refused exactly where `resolve` refuses the index, with its numbers, and where it stands at the start, with that place and the text's
-/// bounds in code units of the storage. At most ten words are read, and those that resolving an index of the other encoding reads.
+/// The index of the code unit before the one that an index is rounded down to. Refused at the start. At most ten words are read.
 pub fn before<T: Text, L: Ledger>(
     t: &mut T,
     i: Index,
@@ -146,12 +134,9 @@ pub fn before<T: Text, L: Ledger>(
     calls::before(t, ElementKind::Units(Encoding::Utf16), i, steps)
 }
 
-/// The index of the code unit `n` code units behind the one that an index is rounded down to, or before it where `n` is negative.
+/// The index of the code unit `n` code units after the one that an index is rounded down to, or before it where `n` is negative.
 ///
-/// Refused exactly where `resolve` refuses the index, with its numbers, and where that place is before the first code unit or past the
-/// end, with the place that the index is rounded down to and the text's bounds in code units of the storage. Where the text is marked
-/// ASCII no word is read; else one pass from the index, at most four words a scalar, beside the six that the index and the answer take
-/// and those that resolving an index of the other encoding reads.
+/// Refused where that is before the first code unit or past the end. One pass from the index, at most four words a scalar, and six.
 pub fn offset_by<T: Text, L: Ledger>(
     t: &mut T,
     i: Index,
@@ -171,8 +156,7 @@ pub fn offset_by<T: Text, L: Ledger>(
 
 /// How many code units lie from the one that an index is rounded down to, to another: below 0 where that is before it.
 ///
-/// Refused exactly where `resolve` refuses the first index or, where it doesn't, the second, with its numbers.
-/// Where the text is marked ASCII no word is read; else, in UTF-8 storage, one pass from the earlier of the two, at most two words a scalar.
+/// The first index is refused before the second. No word is read in UTF-16 storage; elsewhere: One pass from the earlier of the two, at most two words a scalar.
 pub fn distance<T: Text, L: Ledger>(
     t: &mut T,
     from: Index,
@@ -190,24 +174,18 @@ pub fn distance<T: Text, L: Ledger>(
     calls::distance(t, ElementKind::Units(Encoding::Utf16), from, to, steps)
 }
 
-/// The index of the code unit with an offset, which may be the number of code units.
+/// The index of the code unit with an offset, or of the end. Refused exactly where the offset is above their number.
 ///
-/// Refused exactly where the offset is above that number, with the offset, 0 and that number. Where the text is marked ASCII no word
-/// is read. Where breadcrumbs are known, the length, the breadcrumb before the offset and once each word in which a scalar begins from
-/// there to the offset, at most two more than the distance of breadcrumbs; else in UTF-8 storage at most two a scalar in one pass up to the code unit, and in UTF-16 storage at most the two beside it.
+/// Where breadcrumbs are known, the length, the breadcrumb before the offset and once each word in which a scalar begins from there to the
+/// offset are read, at most two words more than the distance of breadcrumbs; else in UTF-8 storage at most two a scalar in one pass up to
+/// the code unit, and in UTF-16 storage the two beside it.
 pub fn index_of_offset<T: Text, L: Ledger>(
     t: &mut T,
     offset: u64,
     steps: &mut Steps<L>,
 ) -> Result<Index, OutOfBounds>
-    ensures index { IfOk result (λ r. r ≡ element_index (Units Utf16) (T.part t.old) offset) }
-    ensures inside { IfOk result (λ r. offset ≤ element_count (Units Utf16) (T.part t.old)) }
-    ensures refused { IfErr result (λ out. element_count (Units Utf16) (T.part t.old) < offset) }
-    ensures carries { IfErr result (λ out. out ≡ record {
-      position = offset;
-      low = 0;
-      high = element_count (Units Utf16) (T.part t.old);
-    }) }
+    ensures index { IfOk result (IsIndexOf (elements_of (Units Utf16) (T.part t.old)) offset) }
+    ensures refused { IfErr result (IsPastCount (elements_of (Units Utf16) (T.part t.old)) offset) }
     ensures kept { t.new ≡ t.old }
     ensures crumbs { T.knows_crumbs t.old ≡ true → 1 ≤ T.STRIDE → steps.new ≤ steps.old + T.STRIDE + 2 }
     ensures counted { T.knows_crumbs t.old ≡ true → 1 ≤ T.STRIDE → T.marked_ascii t.old ≡ false
@@ -226,11 +204,9 @@ pub fn index_of_offset<T: Text, L: Ledger>(
 
 /// The offset of the code unit that an index is rounded down to.
 ///
-/// Refused exactly where `resolve` refuses the index, with its numbers. Where the text is marked ASCII no word is read. Where
-/// breadcrumbs are known and the index is read in bytes, the length and the breadcrumb before the index, at most one word for each binary
-/// digit of the number of the last breadcrumb to find it, and once each word in which a scalar begins from there to the index, at most as
-/// many as the distance of breadcrumbs; else at most two a scalar in one pass up to the code unit, at most four beside it, and those that
-/// resolving an index of the other encoding reads.
+/// Where breadcrumbs are known and the index is read in bytes, the length and the breadcrumb before the index are read, at most one word for
+/// each binary digit of the number of the last breadcrumb to find it, and once each word in which a scalar begins from there to the index,
+/// at most as many as the distance of breadcrumbs; else at most two a scalar in one pass up to the code unit, and four beside it.
 pub fn offset_of_index<T: Text, L: Ledger>(
     t: &mut T,
     i: Index,
@@ -239,14 +215,10 @@ pub fn offset_of_index<T: Text, L: Ledger>(
     ensures offset { IfOk result (λ offset. element_offset (Units Utf16) (T.part t.old) i ≡ Some offset) }
     ensures refused { IfErr result (IsOutOfRange (T.part t.old) i) }
     ensures kept { t.new ≡ t.old }
-    ensures crumbs { T.knows_crumbs t.old ≡ true → 1 ≤ T.STRIDE → reads_other (T.part t.old).storage i ≡ false → (digits : ℕ)
-        → size16 (T.part t.old).whole / T.STRIDE < 2 ^ digits → steps.new ≤ steps.old + T.STRIDE + 2 + digits }
-    ensures walked { T.knows_crumbs t.old ≡ true → 1 ≤ T.STRIDE → reads_other (T.part t.old).storage i ≡ false → (m crumb digits : ℕ)
-        → IsLastCrumb (T.part t.old).whole T.STRIDE i m crumb → size16 (T.part t.old).whole / T.STRIDE < 2 ^ digits
-        → steps.new ≤ steps.old + words_to_byte (T.part t.old).whole m (position_of i) + 2 + digits }
+    ensures crumbs { T.knows_crumbs t.old ≡ true → 1 ≤ T.STRIDE → reads_other (T.part t.old).storage i ≡ false → FewFromCrumb (T.part t.old).whole T.STRIDE steps.old steps.new }
+    ensures walked { T.knows_crumbs t.old ≡ true → 1 ≤ T.STRIDE → reads_other (T.part t.old).storage i ≡ false → MostFromCrumb (T.part t.old).whole T.STRIDE i steps.old steps.new }
     ensures counted { T.knows_crumbs t.old ≡ true → 1 ≤ T.STRIDE → T.marked_ascii t.old ≡ false → reads_other (T.part t.old).storage i ≡ false
-        → IfOk result (λ offset. (m crumb digits : ℕ) → IsLastCrumb (T.part t.old).whole T.STRIDE i m crumb → 2 ^ digits ≤ size16 (T.part t.old).whole / T.STRIDE + 1
-        → steps.old + words_to_byte (T.part t.old).whole m (position_of i) + 2 + digits ≤ steps.new) }
+        → IfOk result (λ offset. LeastFromCrumb (T.part t.old).whole T.STRIDE i steps.old steps.new) }
     ensures cost { T.knows_crumbs t.old ≡ false → steps.new ≤ steps.old + 2 * length (T.part t.old).whole + 2 * scalars_in (T.part t.old) + 4 }
     ensures across { reads_other (T.part t.old).storage i ≡ true → steps.new ≤ steps.old + 2 * length (T.part t.old).whole + 2 * scalars_in (T.part t.old) + 4 }
     ensures near { T.knows_crumbs t.old ≡ false → reads_other (T.part t.old).storage i ≡ false → steps.new ≤ steps.old + 2 * scalars_in (T.part t.old) + 4 }
