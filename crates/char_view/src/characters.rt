@@ -3,6 +3,10 @@
 //! An index that a call of this module answers is marked as a boundary of scalars and of Characters, and its stride is the number of
 //! code units of the storage of the Character that begins there: 0 where these are more than 63, and at the text's end. Each walk
 //! goes from the text's start, since what ends a Character may lie arbitrarily far before it; its cost is linear in what it passes.
+//!
+//! A call reads an index as `rounding::resolve` does and rounds it down to a Character. It refuses what `resolve` refuses, with its
+//! numbers, and nothing else but what its own line names: a walk that would leave the text, with the place where it begins and the
+//! text's bounds.
 ghost use Rattle.std.specs.Prelude.{◌≡◌, ◌≢◌, ◌+◌, ◌-◌, ◌<◌, ◌≤◌, ◌⊎◌, IfOk, IfErr, IfSome, IfNone, pos, ◌+ℤ◌, ◌<ℤ◌};
 ghost use Rattle.index_words.specs.Fields.{position_of, stride_of};
 ghost use Rattle.rounding.specs.Elements.{IsElement, IsAfter, IsBefore, IsMoved, IsDistance, IsStopped, IsMoveOut};
@@ -29,7 +33,7 @@ pub fn start<T: Text, L: Ledger>(t: &mut T, steps: &mut Steps<L>) -> Index
     index_between(t.encoding(), from, walk.at.position)
 }
 
-/// The index behind the last Character. No word is read.
+/// The index past the last Character. No word is read.
 pub fn end<T: Text>(t: &T) -> Index
     ensures { result ≡ character_index (T.part t.now) (characters_in (T.part t.now)) }
 {
@@ -48,8 +52,7 @@ pub fn count<T: Text, L: Ledger>(t: &mut T, steps: &mut Steps<L>) -> u64
 }
 
 /// The index of the Character that an index is rounded down to: the greatest boundary that isn't after the index's scalar floor.
-///
-/// Refused exactly where `resolve` refuses the index, with its numbers. The text is read up to that Character's end.
+/// The text is read up to that Character's end.
 pub fn floor<T: Text, L: Ledger>(
     t: &mut T,
     i: Index,
@@ -59,16 +62,13 @@ pub fn floor<T: Text, L: Ledger>(
     ensures refused { IfErr result (IsOutOfRange (T.part t.old) i) }
     ensures kept { t.new ≡ t.old }
 {
-    match span_of(t, i, steps) {
-        Ok((span, _)) => Ok(index_between(t.encoding(), span.from, span.to)),
-        Err(out) => Err(out),
-    }
+    let (span, _) = span_of(t, i, steps)?;
+    Ok(index_between(t.encoding(), span.from, span.to))
 }
 
-/// The indices of the Character that an index is rounded down to and of the one behind it, or of the end: the Character's bounds.
+/// The bounds of the Character that an index is rounded down to: its index and that of the one after it, or of the end.
 ///
-/// Refused exactly where `resolve` refuses the index, with its numbers, and where it stands at the end, with that place and the text's
-/// bounds in code units of the storage. The text is read up to the end of the Character behind.
+/// Refused at the end. The text is read up to the end of the Character after it.
 pub fn element<T: Text, L: Ledger>(
     t: &mut T,
     i: Index,
@@ -78,10 +78,7 @@ pub fn element<T: Text, L: Ledger>(
     ensures refused { IfErr result (IsStopped (characters_of (T.part t.old)) i (characters_in (T.part t.old))) }
     ensures kept { t.new ≡ t.old }
 {
-    let (span, mut walk) = match span_of(t, i, steps) {
-        Ok(found) => found,
-        Err(out) => return Err(out),
-    };
+    let (span, mut walk) = span_of(t, i, steps)?;
     if span.from == span.to {
         return Err(leaving(t, span.from));
     }
@@ -93,10 +90,9 @@ pub fn element<T: Text, L: Ledger>(
     ))
 }
 
-/// The index of the Character behind the one that an index is rounded down to, or of the end.
+/// The index of the Character after the one that an index is rounded down to, or of the end.
 ///
-/// Refused exactly where `resolve` refuses the index, with its numbers, and where it stands at the end, with that place and the text's
-/// bounds in code units of the storage. The text is read up to the end of the Character behind.
+/// Refused at the end. The text is read up to the end of the Character after it.
 pub fn after<T: Text, L: Ledger>(
     t: &mut T,
     i: Index,
@@ -106,16 +102,13 @@ pub fn after<T: Text, L: Ledger>(
     ensures refused { IfErr result (IsStopped (characters_of (T.part t.old)) i (characters_in (T.part t.old))) }
     ensures kept { t.new ≡ t.old }
 {
-    match element(t, i, steps) {
-        Ok((_, next)) => Ok(next),
-        Err(out) => Err(out),
-    }
+    let (_, next) = element(t, i, steps)?;
+    Ok(next)
 }
 
 /// The index of the Character before the one that an index is rounded down to.
 ///
-/// Refused exactly where `resolve` refuses the index, with its numbers, and where it stands at the start, with that place and the text's
-/// bounds in code units of the storage. The text is read up to the end of the Character that the index is rounded down to.
+/// Refused at the start. The text is read up to the end of the Character that the index is rounded down to.
 pub fn before<T: Text, L: Ledger>(
     t: &mut T,
     i: Index,
@@ -125,21 +118,17 @@ pub fn before<T: Text, L: Ledger>(
     ensures refused { IfErr result (IsStopped (characters_of (T.part t.old)) i 0) }
     ensures kept { t.new ≡ t.old }
 {
-    let (span, _) = match span_of(t, i, steps) {
-        Ok(found) => found,
-        Err(out) => return Err(out),
-    };
+    let (span, _) = span_of(t, i, steps)?;
     if span.number == 0 {
         return Err(leaving(t, span.from));
     }
     Ok(index_between(t.encoding(), span.previous, span.from))
 }
 
-/// The index of the Character `n` Characters behind the one that an index is rounded down to, or before it where `n` is negative.
+/// The index of the Character `n` Characters after the one that an index is rounded down to, or before it where `n` is negative.
 ///
-/// Refused exactly where `resolve` refuses the index, with its numbers, and where that place is before the first Character or past the
-/// end, with the place that the index is rounded down to and the text's bounds in code units of the storage. Forward the text is read
-/// once, up to the end of the Character found; backward it is read up to the index first, and then once more from its start.
+/// Refused where that is before the first Character or past the end. Forward the text is read once, up to the end of the Character
+/// found; back it is read up to the index first, and then once more from its start.
 pub fn offset_by<T: Text, L: Ledger>(
     t: &mut T,
     i: Index,
@@ -150,10 +139,7 @@ pub fn offset_by<T: Text, L: Ledger>(
     ensures refused { IfErr result (IsMoveOut (characters_of (T.part t.old)) i n) }
     ensures kept { t.new ≡ t.old }
 {
-    let (span, walk) = match span_of(t, i, steps) {
-        Ok(found) => found,
-        Err(out) => return Err(out),
-    };
+    let (span, walk) = span_of(t, i, steps)?;
     match index_moved(t, span, walk, n, steps) {
         Some((_, there)) => Ok(there),
         None => Err(leaving(t, span.from)),
@@ -204,7 +190,7 @@ fn index_back<T: Text, L: Ledger>(
     index_on(t, walk, number - by, steps)
 }
 
-/// The index of the Character `n` Characters behind one that the walk has passed last, or before it where `n` isn't above 0, with its
+/// The index of the Character `n` Characters after one that the walk has passed last, or before it where `n` isn't above 0, with its
 /// number; none where that is outside the text.
 fn index_moved<T: Text, L: Ledger>(
     t: &mut T,
@@ -229,8 +215,8 @@ fn index_moved<T: Text, L: Ledger>(
 
 /// How many Characters lie from the one that an index is rounded down to, to another: below 0 where that is before it.
 ///
-/// Refused exactly where `resolve` refuses the first index or, where it doesn't, the second, with its numbers. The text is read up to
-/// the first Character's end, and from its start again up to the second's.
+/// The first index is refused before the second. The text is read up to the first Character's end, and from its start again up to the
+/// second's.
 pub fn distance<T: Text, L: Ledger>(
     t: &mut T,
     from: Index,
@@ -241,15 +227,11 @@ pub fn distance<T: Text, L: Ledger>(
     ensures refused { IfErr result (IsEitherOut (T.part t.old) from to) }
     ensures kept { t.new ≡ t.old }
 {
-    let (first, _) = match span_of(t, from, steps) {
-        Ok(found) => found,
-        Err(out) => return Err(out),
-    };
-    let (second, _) = match span_of(t, to, steps) {
-        Ok(found) => found,
-        Err(out) => return Err(out),
-    };
-    Ok(signed_gap(first.number, second.number))
+    let (first, _) = span_of(t, from, steps)?;
+    match span_of(t, to, steps) {
+        Ok((second, _)) => Ok(signed_gap(first.number, second.number)),
+        Err(out) => Err(out),
+    }
 }
 
 /// The index that `after` answers, but without a stride, by an addition: the index's stride is taken at its word, and nothing is read.

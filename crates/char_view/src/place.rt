@@ -33,8 +33,8 @@ pub(crate) fn first_place<T: Text>(t: &T) -> Place
     }
 }
 
-/// The place behind the scalar at a place that isn't the end. At most two words are read.
-pub(crate) fn place_behind<T: Text, L: Ledger>(t: &mut T, at: Place, steps: &mut Steps<L>) -> Place
+/// The place after the scalar at a place that isn't the end. At most two words are read.
+pub(crate) fn place_after<T: Text, L: Ledger>(t: &mut T, at: Place, steps: &mut Steps<L>) -> Place
     requires place { IsPlace (T.part t.old) at.offset at.position }
     requires inside { at.position < high_of (T.part t.old) }
     ensures place { IsPlace (T.part t.old) result.offset result.position }
@@ -50,7 +50,7 @@ pub(crate) fn place_behind<T: Text, L: Ledger>(t: &mut T, at: Place, steps: &mut
     }
 }
 
-/// The place `offset` bytes of UTF-8 behind the text's start, found by a walk from an earlier one.
+/// The place `offset` bytes of UTF-8 after the text's start, found by a walk from an earlier one.
 fn place_walked_to<T: Text, L: Ledger>(
     t: &mut T,
     from: Place,
@@ -66,12 +66,12 @@ fn place_walked_to<T: Text, L: Ledger>(
 {
     let mut at = from;
     'scalars: while at.offset < offset {
-        at = place_behind(t, at, steps);
+        at = place_after(t, at, steps);
     }
     at
 }
 
-/// The place `offset` bytes of UTF-8 behind the text's start, which isn't before `from`.
+/// The place `offset` bytes of UTF-8 after the text's start, which isn't before `from`.
 ///
 /// In UTF-8 storage nothing is read, in UTF-16 storage at most two words for each scalar between the two places.
 pub(crate) fn place_at<T: Text, L: Ledger>(
@@ -104,7 +104,7 @@ fn walked_len<T: Text, L: Ledger>(t: &mut T, steps: &mut Steps<L>) -> usize
     let high = t.high();
     let mut at = first_place(t);
     'scalars: while at.position < high {
-        at = place_behind(t, at, steps);
+        at = place_after(t, at, steps);
     }
     at.offset
 }

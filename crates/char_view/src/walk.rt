@@ -9,7 +9,7 @@ ghost use Rattle.char_view.specs.Walks.{IsPieceOf, IsWalk, breaks, HasNone};
 
 use crate::context::is_break;
 use crate::piece::{Piece, piece_from, piece_text};
-use crate::place::{Place, first_place, place_at, place_behind, text_len};
+use crate::place::{Place, first_place, place_after, place_at, text_len};
 use std::sync::ledger::Ledger;
 use unicode_segmentation::GraphemeCursor;
 use word_units::{Steps, Text};
@@ -127,7 +127,7 @@ fn further<T: Text, L: Ledger>(
     if reached > place.offset {
         return place_at(t, place, reached, steps);
     }
-    place_behind(t, place, steps)
+    place_after(t, place, steps)
 }
 
 /// Whether a Character begins or ends at a place, to which the cursor is brought; the piece begins there.
@@ -163,7 +163,7 @@ fn stops<T: Text, L: Ledger>(
     is_break(t, cursor, piece, at, steps)
 }
 
-/// Has the cursor take the boundary at which it stands, so that it looks behind that next.
+/// Has the cursor take the boundary at which it stands, so that it looks past that next.
 fn take_boundary<T: Text>(t: &T, cursor: &mut GraphemeCursor, piece: &Piece, at: usize, len: usize)
     requires on { IsCursorOn cursor.old (own_bytes (T.part t.now)) }
     requires offset { cursor_offset cursor.old ≡ at }
@@ -201,7 +201,7 @@ fn takes<T: Text>(t: &T, cursor: &mut GraphemeCursor, piece: &Piece, at: usize) 
     }
 }
 
-/// The piece that is handed to the cursor first: the one at hand, or where that has nothing behind the place, the one from there on.
+/// The piece that is handed to the cursor first: the one at hand, or where that has nothing after the place, the one from there on.
 fn ready<T: Text, L: Ledger>(t: &mut T, piece: &mut Piece, at: Place, steps: &mut Steps<L>)
     requires place { IsPlace (T.part t.old) at.offset at.position }
     requires piece { IsPieceOf (own_bytes (T.part t.old)) piece.old }

@@ -2,7 +2,7 @@ use Rattle.std.proofs.Common.{arith}
 use Rattle.text_spec.proofs.Walk.{start-le}
 use Rattle.text_spec.specs.Views.{width_in}
 use Rattle.char_view.proofs.Parts.{next_place}
-use Rattle.char_view.proofs.place.place_behind.Goals as goal
+use Rattle.char_view.proofs.place.place_after.Goals as goal
 
 pub scalar_at-scalar-requires-clause-inside : goal.scalar_at-scalar-requires-clause-inside
 scalar_at-scalar-requires-clause-inside g c =
