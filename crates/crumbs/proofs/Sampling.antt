@@ -8,7 +8,8 @@ use Rattle.text_spec.specs.Packed.{content_words, denoted_text}
 use Rattle.text_spec.specs.Views.{size_in}
 use Rattle.text_spec.proofs.Denoting.{denoted_size, denoted_room}
 use Rattle.crumbs.proofs.Crumbing.{size16-le}
-use Rattle.crumbs.specs.Fitting.{marks_utf16, unit_count, stored_text, IsCrumbList}
+use Rattle.crumbs.specs.Fitting.{stored_text, IsCrumbList}
+use Rattle.object_words.specs.CountWord.{marks_utf16, unit_count}
 
 pub record Sample (words : List ℕ) : Type 0 where
   pub some : 0 < length words

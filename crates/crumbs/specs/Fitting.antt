@@ -4,16 +4,9 @@ use Rattle.std.specs.Char.{IsScalar, encode_utf8, len_utf8}
 use Rattle.text_spec.specs.declared.encoding.Encoding.TheVariants.{Utf8, Utf16}
 use Rattle.index_words.specs.Crumbs.{index_word8, crumbs}
 use Rattle.text_spec.specs.Packed.{bytes_of, denoted_text}
-use Rattle.crumbs.specs.declared.count_word.TheConstants.{UTF16_BIT, COUNT_WIDTH}
+use Rattle.object_words.specs.CountWord.{marks_utf16, unit_count}
 
--- whether a count word marks its content as UTF-16, and its number of code units
-abbrev pub marks_utf16 : ℕ → Bool
-marks_utf16 count_word = count_word / 2 ^ UTF16_BIT % 2 == 1
-
-abbrev pub unit_count : ℕ → ℕ
-unit_count count_word = count_word % 2 ^ COUNT_WIDTH
-
--- the text that the words of a slot denote, a count word and content words behind it: none where there is no count word,
+-- the text that the words of a slot denote, a count word and content words after it: none where there is no count word,
 -- where the content words hold fewer code units than it says, or where bytes aren't UTF-8
 abbrev pub stored_text : List ℕ → Option (List ℕ)
 stored_text [] = None

@@ -3,9 +3,9 @@ ghost use Rattle.std.specs.Prelude.{◌≡◌, ℕ, List, ◌+◌, ◌-◌, ◌*
 ghost use Rattle.index_words.specs.Crumbs.{size16, crumbs};
 ghost use Rattle.crumbs.specs.Fitting.{IsCrumbList, IsListOf, Matches, IsAmiss};
 
-use crate::count_word::{is_utf16, units_in};
 use crate::crumb::word_of_crumb;
 use crate::decoding::width_at;
+use object_words::count_word::{marks_utf16, unit_count};
 use slot_model::Attach;
 use word_units::units_of_width;
 
@@ -21,8 +21,8 @@ impl<const STRIDE: usize> Attach for Crumbs<STRIDE> {
     fn check_fit(words: &[u64], side: &[u64]) -> bool {
         match words.split_first() {
             Some((count_word, content)) => {
-                !is_utf16(*count_word)
-                    && is_list_of(content, units_in(*count_word), STRIDE as u64, side)
+                !marks_utf16(*count_word)
+                    && is_list_of(content, unit_count(*count_word), STRIDE as u64, side)
             }
             None => false,
         }

@@ -14,12 +14,11 @@
 //!
 //! `Crumbs<STRIDE>` says which list of words may be the side of a stored text: its list of breadcrumbs, and no other. `build` writes
 //! that list, `for_offset` and `near` find the breadcrumb that a question starts from, `index_of_offset` and `offset_of_index` answer it
-//! by a walk from there. The list is the definition's (`crumbs` in `specs/Crumbs.antt` of text_spec), for every stride. No call takes
-//! memory. Lists, strides and layout are the project's own, after Swift's strings. Start at `asking.rt`.
+//! by a walk from there. The list is the definition's (`crumbs` in `specs/Crumbs.antt` of index_words), for every stride. `StoredText` is
+//! the words of a slot with the list beside them, as a text. No call takes memory. Lists, strides and layout are the project's own, after Swift's strings. Start at `asking.rt`.
 #![tactic(auto)]
 
 mod asking;
-mod count_word;
 mod counting;
 mod crumb;
 mod decoding;
@@ -27,11 +26,13 @@ mod fitting;
 pub mod laws;
 mod listing;
 mod scanning;
+mod stored;
 mod walking;
 
 pub use asking::{for_offset, near};
 pub use fitting::Crumbs;
 pub use listing::build;
+pub use stored::StoredText;
 pub use walking::{index_of_offset, offset_of_index};
 
 #[cfg(test)]

@@ -7,11 +7,8 @@ ghost use Rattle.text_spec.specs.Views.{size_in};
 ghost use Rattle.index_words.specs.Fields.{position_of};
 ghost use Rattle.crumbs.specs.Fitting.{stored_text};
 
-mod sampled;
-
-use crate::{Crumbs, build, index_of_offset, offset_of_index};
+use crate::{Crumbs, StoredText, build, index_of_offset, offset_of_index};
 use index_words::Index;
-use sampled::Sampled;
 use slot_model::{Attach, Layout};
 use slot_table::{Draft, Heap, Pass, Ref};
 use std::alloc::Global;
@@ -21,7 +18,7 @@ use std::sync::ledger::{Blank, Ledger};
 use text_spec::{Encoding, OutOfMemory, TextList};
 use word_units::{OutOfBounds, Steps, Text, byte_word};
 
-/// The words of a stored text: a count word, and eight bytes to a word behind it.
+/// The words of a stored text: a count word, and eight bytes to a word after it.
 fn stored(alloc: Global, text: &str) -> Result<Vec<u64>, OutOfMemory> {
     let bytes = text.as_bytes();
     let mut words = Vec::new(alloc);
@@ -114,7 +111,7 @@ fn build_uncounted<T: Text, A: Attach, L: Ledger>(t: &mut T, draft: &mut Draft<'
 fn sided<const DISTANCE: usize>(
     alloc: Global,
     words: &[u64],
-    t: &mut Sampled<DISTANCE>,
+    t: &mut StoredText<DISTANCE>,
     pass: &mut Pass<'_, Crumbs<DISTANCE>>,
 ) -> Result<Option<Vec<u64>>, OutOfMemory>
     requires distance { (1 ≤ DISTANCE) × (DISTANCE ≤ 4096) }
@@ -136,7 +133,7 @@ fn sided<const DISTANCE: usize>(
     let Some(mut list) = pass.draft() else {
         return Ok(None);
     };
-    build_uncounted::<Sampled<DISTANCE>, Crumbs<DISTANCE>, Brand>(t, &mut list, Blank::new(1));
+    build_uncounted::<StoredText<DISTANCE>, Crumbs<DISTANCE>, Brand>(t, &mut list, Blank::new(1));
     reference.install(list, pass);
     let len = reference.side(0) / DISTANCE as u64 + 2;
     Ok(Some(side_of(alloc, &mut reference, len as u32)?))
@@ -153,7 +150,7 @@ fn check_list<const DISTANCE: usize>(
     let plain = plain_list(alloc, text, DISTANCE as u64)?;
     let wanted = plain.clone()?;
     let words = stored(alloc, text)?;
-    let mut t = Sampled::<DISTANCE>::new(words.clone()?, plain, false).expect(
+    let mut t = StoredText::<DISTANCE>::new(words.clone()?, plain, false).expect(
         rt,
         "the list of {text:?} at {DISTANCE} fits",
     );
@@ -304,12 +301,12 @@ fn offset_uncounted<T: Text, L: Ledger>(t: &mut T, i: Index, blank: Blank) -> u6
 }
 
 /// The index word of a UTF-16 offset; `None` where the offset is past the end.
-fn word_of_offset<const DISTANCE: usize>(t: &mut Sampled<DISTANCE>, offset: u64) -> Option<u64>
+fn word_of_offset<const DISTANCE: usize>(t: &mut StoredText<DISTANCE>, offset: u64) -> Option<u64>
     requires known { t.old.2 ≡ true }
     requires some { 1 ≤ DISTANCE }
     ensures { t.new ≡ t.old }
 {
-    match index_uncounted::<Sampled<DISTANCE>, Brand>(t, offset, Blank::new(1)) {
+    match index_uncounted::<StoredText<DISTANCE>, Brand>(t, offset, Blank::new(1)) {
         Ok(index) => Some(index.bits()),
         Err(_) => None,
     }
@@ -317,7 +314,7 @@ fn word_of_offset<const DISTANCE: usize>(t: &mut Sampled<DISTANCE>, offset: u64)
 
 /// The UTF-16 offset of an index that is read in bytes; `None` where it is past the end.
 fn offset_of_place<const DISTANCE: usize>(
-    t: &mut Sampled<DISTANCE>,
+    t: &mut StoredText<DISTANCE>,
     position: u64,
     transcoded: u32,
 ) -> Option<u64>
@@ -334,13 +331,13 @@ fn offset_of_place<const DISTANCE: usize>(
     if i.position() > count {
         return None;
     }
-    Some(offset_uncounted::<Sampled<DISTANCE>, Brand>(t, i, Blank::new(1)))
+    Some(offset_uncounted::<StoredText<DISTANCE>, Brand>(t, i, Blank::new(1)))
 }
 
 /// The units of the scalar that begins at byte `p` behind `unit` units are found there, by at most two words more than the stride.
 fn check_units<const DISTANCE: usize>(
     rt: &impl Abort,
-    t: &mut Sampled<DISTANCE>,
+    t: &mut StoredText<DISTANCE>,
     p: u64,
     unit: u64,
     units: u64,
@@ -368,7 +365,7 @@ fn check_units<const DISTANCE: usize>(
 /// The four indices at byte `q` have the offset `unit`, or so many more as they pass of a scalar that begins there and has `units`.
 fn check_byte<const DISTANCE: usize>(
     rt: &impl Abort,
-    t: &mut Sampled<DISTANCE>,
+    t: &mut StoredText<DISTANCE>,
     q: u64,
     unit: u64,
     units: u64,
@@ -399,7 +396,7 @@ fn check_byte<const DISTANCE: usize>(
 /// The same at each byte of a scalar.
 fn check_bytes<const DISTANCE: usize>(
     rt: &impl Abort,
-    t: &mut Sampled<DISTANCE>,
+    t: &mut StoredText<DISTANCE>,
     place: (u64, u64),
     bytes: u64,
     units: u64,
@@ -425,7 +422,7 @@ fn check_questions<const DISTANCE: usize>(
     requires { (1 ≤ DISTANCE) × (DISTANCE ≤ 4096) }
 {
     let list = check_list::<DISTANCE>(rt, alloc, text)?;
-    let mut t = Sampled::<DISTANCE>::new(stored(alloc, text)?, list, true).expect(
+    let mut t = StoredText::<DISTANCE>::new(stored(alloc, text)?, list, true).expect(
         rt,
         "the list of {text:?} at {DISTANCE} fits",
     );
@@ -467,7 +464,7 @@ type Offset = (u64, Option<u64>, u64);
 type Place = (u64, u32, u64, u64);
 
 /// The questions of two tables are answered so, each by so many words.
-fn check_reads(rt: &impl Abort, t: &mut Sampled<64>, offsets: &[Offset], places: &[Place])
+fn check_reads(rt: &impl Abort, t: &mut StoredText<64>, offsets: &[Offset], places: &[Place])
     requires known { t.old.2 ≡ true }
     ensures { t.new ≡ t.old }
 {
@@ -491,7 +488,7 @@ fn questions_read_so_many_words(rt: HostRuntime) -> Result<(), OutOfMemory> {
     let alloc = rt.alloc();
     let text = text_of(alloc, &[("é", 63), ("😀", 1), ("é", 63)])?;
     let list = check_list::<64>(&rt, alloc, text.as_str())?;
-    let mut t = Sampled::<64>::new(stored(alloc, text.as_str())?, list, true).expect(
+    let mut t = StoredText::<64>::new(stored(alloc, text.as_str())?, list, true).expect(
         &rt,
         "the list fits",
     );

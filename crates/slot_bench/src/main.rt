@@ -7,7 +7,6 @@
 
 mod copies;
 mod histories;
-mod listed;
 mod looks;
 mod owners;
 mod pairs;

@@ -1,8 +1,8 @@
 //! Random offsets of a long mixed text, asked with its breadcrumbs and without.
 ghost use Rattle.std.specs.Prelude.{◌≡◌, ◌<◌, ◌≤◌};
 
-use crate::listed::{DISTANCE, Listed};
 use anyhow::Result;
+use crumbs::StoredText;
 use index_words::Index;
 use std::alloc::{AllocError, Global};
 use std::marker::Brand;
@@ -13,6 +13,9 @@ use text_spec::Encoding;
 use utf16_view::utf16;
 use word_units::{Steps, Text, byte_word};
 
+/// The distance of breadcrumbs, in UTF-16 units.
+const DISTANCE: usize = 64;
+
 /// Ten bytes and five UTF-16 units: a scalar of each length.
 const PART: &str = "aé€😀";
 
@@ -22,7 +25,7 @@ const PARTS: u32 = 6_000;
 /// How many offsets it has, its end among them.
 const OFFSETS: u64 = 30_001;
 
-// The words of a stored text: a count word, and eight bytes to a word behind it.
+// The words of a stored text: a count word, and eight bytes to a word after it.
 fn stored(alloc: Global, text: &str) -> std::result::Result<Vec<u64>, AllocError> {
     let bytes = text.as_bytes();
     let mut words = Vec::new(alloc);
@@ -94,9 +97,9 @@ pub(crate) fn ask(
     }
     let words = stored(alloc, mixed.as_str())?;
     let list = list(alloc, mixed.as_str())?;
-    if let Some(mut text) = Listed::new(words, list, tells) {
+    if let Some(mut text) = StoredText::<DISTANCE>::new(words, list, tells) {
         let start = Instant::now(rt)?;
-        let sum = asked::<Listed, Brand>(&mut text, rounds, Blank::new(1));
+        let sum = asked::<StoredText<DISTANCE>, Brand>(&mut text, rounds, Blank::new(1));
         let milliseconds = start.elapsed(rt)?.as_millis();
         println!(rt; "{rounds} offsets, breadcrumbs known: {tells}, sum of the positions: {sum}")?;
         eprintln!(rt; "{milliseconds} ms")?;

@@ -2,11 +2,9 @@
 //! words that takes.
 ghost use Rattle.std.specs.Prelude.{◌≡◌, ◌<◌};
 
-mod sampled;
-
 use crate::utf16;
+use crumbs::StoredText;
 use index_words::Index;
-use sampled::Sampled;
 use std::alloc::Global;
 use std::marker::Brand;
 use std::process::Abort;
@@ -14,7 +12,7 @@ use std::sync::ledger::{Blank, Ledger};
 use text_spec::OutOfMemory;
 use word_units::{OutOfBounds, Steps, Text, byte_word};
 
-/// The words of a stored text: a count word, and eight bytes to a word behind it.
+/// The words of a stored text: a count word, and eight bytes to a word after it.
 fn stored(alloc: Global, text: &str) -> Result<Vec<u64>, OutOfMemory> {
     let bytes = text.as_bytes();
     let mut words = Vec::new(alloc);
@@ -82,20 +80,20 @@ fn offset_uncounted<T: Text, L: Ledger>(
 
 /// The index word of an offset, or what it is refused with.
 fn word_at<const DISTANCE: usize>(
-    t: &mut Sampled<DISTANCE>,
+    t: &mut StoredText<DISTANCE>,
     offset: u64,
 ) -> Result<u64, OutOfBounds> {
-    let index = index_uncounted::<Sampled<DISTANCE>, Brand>(t, offset, Blank::new(1))?;
+    let index = index_uncounted::<StoredText<DISTANCE>, Brand>(t, offset, Blank::new(1))?;
     Ok(index.bits())
 }
 
 /// The offset of an index word, or what it is refused with; 0 where the word is no index.
 fn offset_at<const DISTANCE: usize>(
-    t: &mut Sampled<DISTANCE>,
+    t: &mut StoredText<DISTANCE>,
     word: u64,
 ) -> Result<u64, OutOfBounds> {
     match Index::check(word) {
-        Some(index) => offset_uncounted::<Sampled<DISTANCE>, Brand>(t, index, Blank::new(1)),
+        Some(index) => offset_uncounted::<StoredText<DISTANCE>, Brand>(t, index, Blank::new(1)),
         None => Ok(0),
     }
 }
@@ -103,8 +101,8 @@ fn offset_at<const DISTANCE: usize>(
 /// A text with breadcrumbs and the same one without, and the most words that a question may read of each.
 #[derive(Drop)]
 struct Both<const DISTANCE: usize> {
-    with: Sampled<DISTANCE>,
-    without: Sampled<DISTANCE>,
+    with: StoredText<DISTANCE>,
+    without: StoredText<DISTANCE>,
     scalars: u64,
     digits: u64,
 }
@@ -119,11 +117,11 @@ fn with_and_without<const DISTANCE: usize>(
     let words = stored(alloc, text)?;
     let list = plain_list(alloc, text, DISTANCE as u64)?;
     let crumbs = (list.len() as u64).wrapping_sub(1);
-    let with = Sampled::<DISTANCE>::new(words.clone()?, list.clone()?, true).expect(
+    let with = StoredText::<DISTANCE>::new(words.clone()?, list.clone()?, true).expect(
         rt,
         "the list of {text:?} fits",
     );
-    let without = Sampled::<DISTANCE>::new(words, list, false).expect(
+    let without = StoredText::<DISTANCE>::new(words, list, false).expect(
         rt,
         "the list of {text:?} fits",
     );

@@ -1,23 +1,27 @@
-//! A stored text with the list of its breadcrumbs beside it, which counts the words that are read of it.
+//! The words of a slot and the list of breadcrumbs beside them, as a text.
 ghost use Rattle.std.specs.Prelude.{◌≡◌, IfSome};
+ghost use Rattle.crumbs.specs.Fitting.{IsCrumbList};
 
-use crumbs::Crumbs;
+use crate::fitting::Crumbs;
+use object_words::count_word::unit_count;
 use slot_model::Attach;
 use std::marker::Model;
 use std::sync::ledger::Ledger;
 use text_spec::Encoding;
 use word_units::{Steps, Text};
 
-/// A stored text and the list of its breadcrumbs, which it tells or keeps to itself.
+/// A stored text in UTF-8 and the list of its breadcrumbs, one at each `DISTANCE`-th UTF-16 unit, which it tells or keeps to itself.
+///
+/// It counts the words that are read of it, since `Steps` can't be read at run time.
 #[derive(Drop)]
-pub struct Sampled<const DISTANCE: usize> {
+pub struct StoredText<const DISTANCE: usize> {
     stored: Vec<u64>,
     list: Vec<u64>,
     tells: bool,
     reads: u64,
 }
 
-impl<const DISTANCE: usize> Model for Sampled<DISTANCE> {
+impl<const DISTANCE: usize> Model for StoredText<DISTANCE> {
     ghost use Rattle.std.specs.Prelude.{ℕ, List, Bool};
     ghost use Rattle.crumbs.specs.Fitting.{IsCrumbList};
 
@@ -28,20 +32,29 @@ impl<const DISTANCE: usize> Model for Sampled<DISTANCE> {
     ghost invariant = { λ t. IsCrumbList DISTANCE t.stored.items t.list.items };
 }
 
-impl<const DISTANCE: usize> Sampled<DISTANCE> {
-    /// The text of the words of a slot, where `list` is the list of its breadcrumbs.
-    pub fn new(stored: Vec<u64>, list: Vec<u64>, tells: bool) -> Option<Sampled<DISTANCE>>
+impl<const DISTANCE: usize> StoredText<DISTANCE> {
+    /// The text of the words of a slot: a count word, and eight bytes of UTF-8 to a word. None where `list` isn't its list of breadcrumbs.
+    ///
+    /// `tells` says whether the text tells its breadcrumbs.
+    pub fn new(stored: Vec<u64>, list: Vec<u64>, tells: bool) -> Option<StoredText<DISTANCE>>
         ensures { IfSome result (λ t. t ≡ (stored.items, list.items, tells)) }
     {
         if !Crumbs::<DISTANCE>::check_fit(stored.as_slice(), list.as_slice()) {
             return None;
         }
-        Some(Sampled {
+        Some(StoredText {
             stored,
             list,
             tells,
             reads: 0,
         })
+    }
+
+    /// The list is that of the words, and is the one list that fits them.
+    pub fn is_listed(&self)
+        ensures { IsCrumbList DISTANCE (self.now.0) (self.now.1) }
+    {
+        let _tells = self.tells;
     }
 
     /// How many words were read since the last call.
@@ -54,7 +67,7 @@ impl<const DISTANCE: usize> Sampled<DISTANCE> {
     }
 }
 
-impl<const DISTANCE: usize> Text for Sampled<DISTANCE> {
+impl<const DISTANCE: usize> Text for StoredText<DISTANCE> {
     ghost use Rattle.std.specs.Prelude.{false, [], drop};
     ghost use Rattle.text_spec.specs.declared.encoding.Encoding.TheVariants.{Utf8};
     ghost use Rattle.std.specs.Option.{unwrap_or};
@@ -80,7 +93,7 @@ impl<const DISTANCE: usize> Text for Sampled<DISTANCE> {
     }
 
     fn count(&self) -> u64 {
-        self.stored[0] % (1 << 48)
+        unit_count(self.stored[0])
     }
 
     fn low(&self) -> u64 {
@@ -88,7 +101,7 @@ impl<const DISTANCE: usize> Text for Sampled<DISTANCE> {
     }
 
     fn high(&self) -> u64 {
-        self.stored[0] % (1 << 48)
+        unit_count(self.stored[0])
     }
 
     fn word<L: Ledger>(&mut self, k: u64, steps: &mut Steps<L>) -> u64 {

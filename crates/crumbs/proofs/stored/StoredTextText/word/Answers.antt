@@ -1,7 +1,7 @@
 use Rattle.std.proofs.Common.{sym, ap, ◌∙◌, ◌+◌, drop, get_or, arith}
 use Rattle.std.proofs.lemmas.List.{get_or_default, get_or-drop}
 use Rattle.crumbs.proofs.Sampling.{word_in}
-use Rattle.crumbs.proofs.tests.sampled.SampledText.word.Goals as goal
+use Rattle.crumbs.proofs.stored.StoredTextText.word.Goals as goal
 
 pub overflow_add-k : goal.overflow_add-k
 overflow_add-k g c = omega (arith, (word_in _ _ _ _ c.args.k c.self.invariant c.self.view_is c.requires).1)

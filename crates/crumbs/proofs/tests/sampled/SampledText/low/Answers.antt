@@ -1,6 +1,0 @@
-use Rattle.std.proofs.Common.{sym}
-use Rattle.text_spec.proofs.Walk.{start-zero}
-use Rattle.crumbs.proofs.tests.sampled.SampledText.low.Goals as goal
-
-pub returns-clause-value : goal.returns-clause-value
-returns-clause-value g c = sym (start-zero _ _)
