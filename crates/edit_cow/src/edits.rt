@@ -25,7 +25,7 @@ use word_units::{Steps, Text};
 ///
 /// The answer tells where the new text stands: Small exactly where it has at most 15 bytes of UTF-8, which takes no memory, and else
 /// Owned, as UTF-8, which takes none where the value kept UTF-8 and doesn't grow. Refused, in this order, the value being as it was: `OutOfBounds` exactly where `rounding::resolve` refuses `a`, and
-/// then where it refuses `b`, with its three numbers; `Reversed` exactly where the boundary of `a` is behind that of `b`, with both as
+/// then where it refuses `b`, with its three numbers; `Reversed` exactly where the boundary of `a` is after that of `b`, with both as
 /// they were handed in; `NotUtf8` exactly where no text has the bytes `with`; `TooLong` exactly where the new text has more than
 /// `str_value::MAX_TEXT_BYTES` of UTF-8, with its length; and `OutOfMemory`. At most two words a scalar are read for an index that is
 /// read in the other encoding, and 264 besides.
@@ -62,7 +62,7 @@ pub fn replace<'h, L: Ledger>(
     rewrite(alloc, s, pass, from, to, with, steps)
 }
 
-/// Puts the text whose UTF-8 is `with` behind the value's text.
+/// Puts the text whose UTF-8 is `with` after the value's text.
 ///
 /// As `replace` at the end of the text, with its answers and its refusals but `OutOfBounds` and `Reversed`, which never come. At most
 /// 260 words are read.

@@ -4,14 +4,14 @@ ghost use Rattle.edit_cow.specs.declared.error.EditError.TheVariants as refusal;
 
 use index_words::Index;
 use str_value::MakeError;
-use word_units::OutOfBounds as OutOfRange;
+use word_units::OutOfBounds as Outside;
 
 /// Why a value was not edited. It is as it was.
 #[derive(Clone, Copy, Debug, PartialEq, Eq)]
 pub enum EditError {
-    /// An index lies behind the text, the first of two where both do; with its three numbers in the unit that it is read in.
-    OutOfBounds(OutOfRange),
-    /// The scalar boundary that the first index is rounded down to is behind that of the second; both as they were handed in.
+    /// An index lies outside the text: the first one, or the second one where the first is in range.
+    OutOfBounds(Outside),
+    /// The scalar boundary that the first index is rounded down to is after that of the second; both as they were handed in.
     Reversed { a: Index, b: Index },
     /// The bytes are not UTF-8 (the Unicode Standard, chapter 3); `valid_up_to` counts the bytes of their longest front that is.
     NotUtf8 { valid_up_to: usize },
@@ -21,10 +21,10 @@ pub enum EditError {
     OutOfMemory,
 }
 
-impl From<OutOfRange> for EditError {
+impl From<Outside> for EditError {
     ghost from_gives = { λ out e. e ≡ refusal.OutOfBounds out };
 
-    fn from(out: OutOfRange) -> EditError {
+    fn from(out: Outside) -> EditError {
         EditError::OutOfBounds(out)
     }
 }

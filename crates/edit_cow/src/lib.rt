@@ -1,4 +1,4 @@
-//! Edits of a value: bytes of UTF-8 in place of the text between two indices, or behind all of it.
+//! Edits of a value: bytes of UTF-8 in place of the text between two indices, or after all of it.
 //!
 //! An index is resolved and rounded down to a scalar boundary. The refusals come in one order: an index out of range, the first one
 //! before the second; the two the wrong way round; bytes that are no UTF-8; a text that would be too long; and want of memory. Each

@@ -1,11 +1,11 @@
 //! The index of a text, its fields, and the one order on indices.
-ghost use Rattle.std.specs.Prelude.{◌≡◌, ◌/◌, ◌^◌, ◌<◌, ◌==◌, ◌↔◌, IsSome, IfSome, IsTrue, true};
+ghost use Rattle.std.specs.Prelude.{◌≡◌, ◌^◌, ◌<◌, ◌==◌, ◌↔◌, IsSome, IfSome, true};
 ghost use Rattle.std.proofs.Common.{rules};
 ghost use Rattle.std.specs.Cmp.{partial_order_from_own_ties};
 ghost use Rattle.std.specs.Cmp.Rules.{comparing, hashing};
 ghost use Rattle.std.specs.Hash as fed;
 ghost use Rattle.std.specs.Ordering.{nat_cmp, on, as_partial_cmp};
-ghost use Rattle.index_words.specs.Fields.{IsIndexWord, Fields, position_of, transcoded_of, stride_of, is_set, place_of, fields_of, word_of, plain};
+ghost use Rattle.index_words.specs.Fields.{IsIndexWord, position_of, transcoded_of, stride_of, is_set, place_of, fields_of, word_of, plain};
 
 use crate::layout::{
     CHARACTER_ALIGNED_BIT, POSITION_SHIFT, POSITION_WIDTH, SCALAR_ALIGNED_BIT, STRIDE_SHIFT,

@@ -1,5 +1,5 @@
 //! Random offsets of a long mixed text, asked with its breadcrumbs and without.
-ghost use Rattle.std.specs.Prelude.{◌≡◌, ◌<◌, ◌≤◌};
+ghost use Rattle.std.specs.Prelude.{◌≡◌, ◌<◌};
 
 use anyhow::Result;
 use crumbs::StoredText;

@@ -7,8 +7,8 @@ ghost use Rattle.unit_views.specs.declared.kind.ElementKind.TheVariants.{Scalars
 ghost use Rattle.unit_views.specs.Elements.{is_own, view_width};
 ghost use Rattle.unit_views.specs.Spots.{WalkedBack};
 
-use crate::steps::back_elements;
 use crate::kind::ElementKind;
+use crate::steps::back_elements;
 use std::sync::ledger::Ledger;
 use word_units::{Steps, Text};
 

@@ -10,9 +10,9 @@ ghost use Rattle.rounding.specs.Elements.{IsAfter, IsBefore, IsMoved, IsDistance
 ghost use Rattle.rounding.specs.Refusals.{IsOutOfRange, IsEitherOut};
 ghost use Rattle.unit_views.specs.Spots.{IsSpot, spot_offset};
 
+use crate::kind::{ElementKind, is_own};
 use crate::spot::{Spot, index_of, leaving, spot_of};
 use crate::turns::{apart, back, forward, turn};
-use crate::kind::{ElementKind, is_own};
 use crate::walk::elements_between;
 use index_words::Index;
 use rounding::{bounds, index_from};

@@ -7,6 +7,7 @@
 
 mod back;
 pub mod calls;
+mod kind;
 pub mod scalars;
 mod signs;
 mod spot;
@@ -15,9 +16,8 @@ mod steps;
 mod tests;
 mod turns;
 pub mod utf8;
-mod kind;
 mod walk;
 
-pub use spot::{Spot, index_of, leaving, spot_of};
 pub use kind::ElementKind;
+pub use spot::{Spot, index_of, leaving, spot_of};
 pub use walk::walk_on;

@@ -27,7 +27,12 @@ pub struct Spot {
 }
 
 /// The element that a resolved index is rounded down to, as a place.
-fn floor_spot<T: Text, L: Ledger>(t: &mut T, view: ElementKind, i: Index, steps: &mut Steps<L>) -> Spot
+fn floor_spot<T: Text, L: Ledger>(
+    t: &mut T,
+    view: ElementKind,
+    i: Index,
+    steps: &mut Steps<L>,
+) -> Spot
     requires { IsResolved (T.part t.old) i }
     ensures place { ◌≡◌ {A = Place} (result.at, result.past) (floor_of view (T.part t.old) (index_place i)) }
     ensures kept { t.new ≡ t.old }

@@ -7,9 +7,9 @@ ghost use Rattle.unit_views.specs.Elements.{is_own, element_count};
 ghost use Rattle.unit_views.specs.Spots.{IsSpot, spot_offset};
 
 use crate::back::walk_back;
+use crate::kind::{ElementKind, is_own};
 use crate::signs::signed_gap;
 use crate::spot::Spot;
-use crate::kind::{ElementKind, is_own};
 use crate::walk::{elements_between, walk_on};
 use rounding::bounds;
 use std::sync::ledger::Ledger;

@@ -20,8 +20,8 @@ ghost use Rattle.rounding.specs.Refusals.{IsEitherOut};
 ghost use Rattle.unit_views.specs.Elements.{elements, element_count, element_index, elements_of};
 
 use crate::calls;
-use crate::spot::{Spot, leaving, spot_of};
 use crate::kind::ElementKind;
+use crate::spot::{Spot, leaving, spot_of};
 use index_words::Index;
 use rounding::bounds;
 use std::sync::ledger::Ledger;

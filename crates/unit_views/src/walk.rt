@@ -6,8 +6,8 @@ ghost use Rattle.word_units.specs.Parts.{storage_size, IsBoundaryIn, scalars_bef
 ghost use Rattle.unit_views.specs.Elements.{is_own, view_width};
 ghost use Rattle.unit_views.specs.Spots.{Walked};
 
-use crate::steps::pass_elements;
 use crate::kind::ElementKind;
+use crate::steps::pass_elements;
 use std::sync::ledger::Ledger;
 use word_units::{Steps, Text};
 

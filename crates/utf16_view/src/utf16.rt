@@ -26,7 +26,7 @@ use index_words::Index;
 use rounding::bounds;
 use std::sync::ledger::Ledger;
 use text_spec::Encoding;
-use unit_views::{Spot, ElementKind, calls, leaving, spot_of};
+use unit_views::{ElementKind, Spot, calls, leaving, spot_of};
 use word_units::{OutOfBounds, Steps, Text, scalar_at, unit_at};
 
 /// The index of the first code unit, or of the end where there is none. No word is read.

@@ -135,7 +135,7 @@ module _ (e : Encoding) (ws : List ℕ) (n : ℕ) (b : List ℕ) (first_scalar l
       let byte : lead ≡ byte_of ws at = is ∙ ap (λ w. w / 2 ^ (8 * (at % 8)) % 256) here in
       let wide : width ≡ len_utf8 c = width-is ws at c lead told.stands byte width one two three four in
       subst (λ x. Passes (part_of x b first_scalar last_scalar) at (at + width) units) (sym is8)
-          (passes Utf8 b first_scalar last_scalar at (at + width) units inside boundary (ap (λ k. at + k) wide) (takes c wide))
+      (passes Utf8 b first_scalar last_scalar at (at + width) units inside boundary (ap (λ k. at + k) wide) (takes c wide))
 
   -- ---- eight scalars of ASCII
   module _ (at word : ℕ) (fits : at + 8 ≤ size_in Utf8 b) (first : at % 8 ≡ 0) (here : word ≡ get_or ws (at / 8) 0) (none : bit_and word 0x8080808080808080 ≡ 0)
@@ -237,4 +237,4 @@ module _ (e : Encoding) (ws : List ℕ) (n : ℕ) (b : List ℕ) (first_scalar l
       → width ≡ len_utf16 (get_or b (down len_utf16 b at) 0) → bytes ≡ len_utf8 code → next ≡ at + width → PassesRun (part_of e b first_scalar last_scalar) at most next bytes 1
   code_run at most next code width bytes inside boundary is wide takes ends =
       one_run (part_of e b first_scalar last_scalar) at most next bytes (subst (λ x. Passes (part_of x b first_scalar last_scalar) at next bytes) (sym is16)
-          (passes Utf16 b first_scalar last_scalar at next bytes inside boundary (ends ∙ ap (λ k. at + k) wide) (takes ∙ ap len_utf8 is)))
+      (passes Utf16 b first_scalar last_scalar at next bytes inside boundary (ends ∙ ap (λ k. at + k) wide) (takes ∙ ap len_utf8 is)))
