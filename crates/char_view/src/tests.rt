@@ -56,7 +56,7 @@ fn word_of(answer: Result<Index, OutOfBounds>) -> u64 {
     }
 }
 
-/// The words that the calls answer for a place: the floor, the one before and behind, the two bounds, and moves from the start and back.
+/// The words that the calls answer for a place: the floor, the one before and after, the two bounds, and moves from the start and back.
 fn words_at<L: Ledger>(t: &mut VecText, position: u64, by: i64, steps: &mut Steps<L>) -> [u64; 7] {
     let start = characters::start(t, steps);
     let Some(index) = Index::check(position.saturating_mul(65536)) else {
@@ -112,7 +112,7 @@ fn floor_of(bounds: &[u64], position: u64) -> u32 {
 }
 
 /// The first place at which the calls don't answer what the plain program does; for the number of Characters and the two ends that
-/// behind the last place.
+/// past the last place.
 fn first_wrong_with<L: Ledger>(
     t: &mut VecText,
     bounds: &[u64],
@@ -176,7 +176,7 @@ fn check(rt: &impl Abort, alloc: Global, text: &str) -> Result<(), OutOfMemory> 
     Ok(())
 }
 
-/// `count` times a piece behind a front, and an end.
+/// `count` times a piece after a front, and an end.
 fn repeated(
     alloc: Global,
     front: &str,
@@ -249,7 +249,7 @@ fn marks_and_flags_in_any_number(rt: HostRuntime) -> Result<(), OutOfMemory> {
     check(&rt, alloc, text.as_str())
 }
 
-/// The number of Characters, and the words of the start, of the index behind it and of the one before the end.
+/// The number of Characters, and the words of the start, of the index after it and of the one before the end.
 fn row_with<L: Ledger>(t: &mut VecText, blank: Blank) -> (u64, u64, u64, u64)
     requires name { blank.name ≡ L.name }
     requires parts { blank.parts ≡ L.parts }
@@ -310,8 +310,8 @@ fn rows_worked_out_by_hand(rt: HostRuntime) -> Result<(), OutOfMemory> {
     Ok(())
 }
 
-/// The words of the index behind the first Character: by an addition, where the first keeps a stride, and by reading.
-fn behind_first<T: Text, L: Ledger>(t: &mut T, blank: Blank) -> (Option<u64>, u64)
+/// The words of the index after the first Character: by an addition, where the first keeps a stride, and by reading.
+fn after_first<T: Text, L: Ledger>(t: &mut T, blank: Blank) -> (Option<u64>, u64)
     requires name { blank.name ≡ L.name }
     requires parts { blank.parts ≡ L.parts }
     requires one { blank.parts ≡ 1 }
@@ -329,8 +329,8 @@ fn behind_first<T: Text, L: Ledger>(t: &mut T, blank: Blank) -> (Option<u64>, u6
     (Some(characters::after_true(t, start).bits()), read)
 }
 
-fn behind(t: &mut VecText) -> (Option<u64>, u64) {
-    behind_first::<VecText, Brand>(t, Blank::new(1))
+fn after_both(t: &mut VecText) -> (Option<u64>, u64) {
+    after_first::<VecText, Brand>(t, Blank::new(1))
 }
 
 #[test]
@@ -343,10 +343,10 @@ fn a_kept_stride_leads_to_the_next_character(rt: HostRuntime) -> Result<(), OutO
         ("", (None, 1), (None, 1)),
     ] {
         let mut utf8 = VecText::from_utf8(alloc, text)?.expect(&rt, "it is short");
-        assert_eq!(&rt; behind(&mut utf8), in8, "{text}");
+        assert_eq!(&rt; after_both(&mut utf8), in8, "{text}");
         let units = text.encode_utf16().collect::<Vec<u16>>(alloc)?;
         let mut utf16 = VecText::from_utf16(alloc, units.as_slice())?.expect(&rt, "it is short");
-        assert_eq!(&rt; behind(&mut utf16), in16, "{text}");
+        assert_eq!(&rt; after_both(&mut utf16), in16, "{text}");
     }
     Ok(())
 }
