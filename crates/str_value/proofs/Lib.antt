@@ -7,3 +7,4 @@ pub mod Pieces
 pub mod Spliced
 pub mod TwoSteps
 pub mod Unpaired
+pub mod Begun

@@ -1,9 +1,17 @@
-use Rattle.std.proofs.Common.{◌≡◌, ◌≤◌, take, count_by}
+use Rattle.std.proofs.Common.{◌≡◌, ◌≤◌, ◌-◌, length, take, count_by}
 use Rattle.str_value.specs.Leading.{starts_scalar, starts_pair}
 use Rattle.str_value.proofs.lengths.lengths_of.Given as goal
 
--- the front is counted
-abbrev pub invariant-loop-byte : goal.invariant-loop-byte
-invariant-loop-byte l =
-    (l.scalars ≡ count_by starts_scalar (take l.byte-index l.bytes)) × (l.pairs ≡ count_by starts_pair (take l.byte-index l.bytes))
-    × (l.scalars ≤ l.byte-index) × (l.pairs ≤ l.byte-index)
+-- the blocks before `at` are counted
+abbrev pub invariant-pieces : goal.invariant-pieces
+invariant-pieces l =
+    record {
+      inside : l.at ≤ length l.bytes;
+      scalars : l.scalars ≡ count_by starts_scalar (take l.at l.bytes);
+      pairs : l.pairs ≡ count_by starts_pair (take l.at l.bytes);
+      few : l.scalars ≤ l.at;
+      fewer : l.pairs ≤ l.at;
+    }
+
+abbrev pub decreases-pieces : goal.decreases-pieces
+decreases-pieces l = length l.bytes - l.at
