@@ -75,19 +75,7 @@ command_in value = option_and_then (λ members.
     else if key_count members == 2 then two_key_command members
     else None) (as_object value)
 
--- which ops are built
-abbrev pub is_built_op : Op → Bool
-is_built_op (op.At offset) = true
-is_built_op (op.Place offset) = true
-is_built_op (op.Slice a b) = true
-is_built_op (op.Edit a b with) = false
-is_built_op (op.Count view) = true
-is_built_op op.All = true
-
-abbrev pub are_built_ops : List Op → Bool
-are_built_ops [] = true
-are_built_ops (o ∷ ops) = is_built_op o && are_built_ops ops
-
+-- which contents of a load are built
 abbrev pub is_built_content : Content → Bool
 is_built_content (content.Text text) = true
 is_built_content (content.Units units) = true
@@ -100,7 +88,7 @@ is_built (command.Load name what) = is_built_content what
 is_built (command.Copy to source) = true
 is_built (command.Drop name) = true
 is_built (command.Compare a b) = true
-is_built (command.On name ops) = are_built_ops ops
+is_built (command.On name ops) = true
 is_built (command.Batch jobs) = false
 
 -- the command itself, where it is built

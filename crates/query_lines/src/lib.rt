@@ -17,10 +17,10 @@ mod tests;
 mod values;
 mod write;
 
-pub use built::are_built_ops;
+pub use built::is_built;
 pub use command::{Command, Content, JobLine, LineError};
 pub use listed::{Bytes, JobLines, JobReplies, Listed, OpReplies, Ops, Units};
 pub use op::{Op, View};
 pub use read::read_line;
 pub use reply::{OpReply, Refusal, Reply};
-pub use write::reply_text;
+pub use write::{append_reply, reply_text};

@@ -42,7 +42,7 @@ fn read_command(alloc: Global, line: &[u8]) -> Result<Command, Fault>
 ///
 /// A line is one JSON object in UTF-8, read as `serde_json` reads it: of a key that stands twice the last value counts. The object
 /// has exactly the keys of a row of commands, and a number is a whole one below 2^64.
-/// `Syntax` where the line is of no row; then `NotBuilt` where its command, or one of its ops, isn't built yet. `OutOfMemory` where memory is wanting.
+/// `Syntax` where the line is of no row; then `NotBuilt` where its command isn't built yet. `OutOfMemory` where memory is wanting.
 /// The strings of texts are moved out of the parsed value, not copied. Time is linear in the line's length.
 pub fn read_line(alloc: Global, line: &[u8]) -> Result<Command, LineError>
     ensures ok { IfOk result (λ c. command_of line.now ≡ Ok c) }

@@ -31,7 +31,10 @@ fn push_op(out: &mut String, op: &Op) -> Result<(), AllocError> {
         Op::Count(view) => write!(out, " count {view:?}"),
         Op::Slice(a, b) => write!(out, " slice {a} {b}"),
         Op::All => write!(out, " text"),
-        _ => write!(out, " (an op that isn't built)"),
+        Op::Edit { a, b, with } => {
+            write!(out, " edit {a} {b}")?;
+            push_bytes(out, with)
+        }
     }
 }
 
@@ -171,8 +174,8 @@ fn lines_are_read_by_the_rows_of_the_table(rt: HostRuntime) -> Result<(), Fail> 
             "on a at 0 place 3",
         ),
         (
-            r#"{"on":"a","do":[{"edit":[0,1],"with":"x"}]}"#,
-            "not built",
+            r#"{"on":"a","do":[{"edit":[0,1],"with":"x"},{"with":"","edit":[3,2]}]}"#,
+            "on a edit 0 1 x edit 3 2 ",
         ),
         (
             r#"{"on":"a","do":[{"count":"scalars"},{"count":"utf8"},{"count":"utf16"},{"count":"characters"}]}"#,

@@ -142,9 +142,14 @@ fn put_refusal(alloc: Global, out: &mut Vec<u8>, refusal: &Refusal) -> Result<()
     }
 }
 
-fn put_reply(alloc: Global, out: &mut Vec<u8>, reply: &Reply) -> Result<(), OutOfMemory>
+/// Puts the text of a reply behind the bytes that are there: compact JSON with keys in byte order, without the newline.
+///
+/// The bytes of each text and name in it are UTF-8, and each length that it tells is in UTF-8 bytes or UTF-16 units. Text past
+/// ASCII is written as it is. Refused where memory is wanting, and a part of the text may stand there then. Nothing is copied but
+/// the reply's own texts; time is linear in the text.
+pub fn append_reply(alloc: Global, out: &mut Vec<u8>, reply: &Reply) -> Result<(), OutOfMemory>
     requires { IsShown reply.now }
-    ensures { OnOk result (out.new.items ≡ out.old.items ++ reply_text reply.now) }
+    ensures exact { OnOk result (out.new.items ≡ out.old.items ++ reply_text reply.now) }
 {
     match reply {
         Reply::Counts {
@@ -161,15 +166,12 @@ fn put_reply(alloc: Global, out: &mut Vec<u8>, reply: &Reply) -> Result<(), OutO
     }
 }
 
-/// The text of a reply: compact JSON with keys in byte order, without the newline.
-///
-/// The bytes of each text and name in it are UTF-8, and each length that it tells is in UTF-8 bytes or UTF-16 units. Text past
-/// ASCII is written as it is. Refused where memory is wanting. One vector grows to the length of the text; time is linear in it.
+/// The text of a reply, as `append_reply` writes it, in a vector of its own.
 pub fn reply_text(alloc: Global, reply: &Reply) -> Result<Vec<u8>, OutOfMemory>
     requires { IsShown reply.now }
     ensures exact { IfOk result (λ bytes. bytes.items ≡ reply_text reply.now) }
 {
     let mut out = Vec::new(alloc);
-    put_reply(alloc, &mut out, reply)?;
+    append_reply(alloc, &mut out, reply)?;
     Ok(out)
 }

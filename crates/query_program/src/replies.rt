@@ -2,7 +2,7 @@ ghost use Rattle.std.specs.Prelude.{◌≡◌, ℕ, ◌+◌, ◌<◌, ◌≤◌,
 ghost use Rattle.memchr.specs.Find.{IsFirstByte, is_byte};
 ghost use Rattle.outside.specs.Bytes.{AppendsPrefix};
 ghost use Rattle.outside.specs.Causes.{Rose};
-ghost use Rattle.query_lines.specs.Replies.{IsShown, reply_text};
+ghost use Rattle.query_lines.specs.Replies.{IsShown};
 ghost use Rattle.query_program.specs.Answers.{answer, answer_line, answers_from, state_after, state_after_line};
 ghost use Rattle.query_program.specs.Lines.{whole_lines, last_part};
 ghost use Rattle.query_program.specs.Writes.{IsWriteStopOf, Answered, AnsweredFirst};
@@ -12,7 +12,7 @@ use crate::line_buffer::LineBuffer;
 use crate::output::{send, send_large};
 use crate::stop::Stop;
 use outside::{Gate, Sink};
-use query_lines::{LineError, Refusal, Reply, read_line, reply_text};
+use query_lines::{LineError, Refusal, Reply, append_reply, read_line};
 use query_session::Session;
 use std::alloc::Global;
 use std::thread::Threads;
@@ -77,7 +77,7 @@ fn answer_first<'h, R: Threads + Sync, G: Gate>(
 }
 
 /// Puts the reply to a line, and a newline, behind the replies that are gathered.
-#[tactic(auto, unfolding(crate::specs::Answers::answer))]
+#[tactic(auto, unfolding(crate::specs::Answers::answer, crate::specs::Answers::state_after_line))]
 pub(crate) fn answer_line<'h, R: Threads + Sync, G: Gate>(
     rt: &R,
     alloc: Global,
@@ -92,29 +92,10 @@ pub(crate) fn answer_line<'h, R: Threads + Sync, G: Gate>(
     ensures state { OnOk result (session.new.state ≡ state_after_line session.old.state line.now) }
     ensures whole { OnOk result (session.new.failed ≡ false) }
 {
-    let text = text_of_reply(rt, alloc, gate, session, line)?;
-    gathered.extend_from_slice(text.as_slice())?;
+    let reply = reply_to(rt, alloc, gate, session, line)?;
+    append_reply(alloc, gathered, &reply)?;
     gathered.push(b'\n')?;
     Ok(())
-}
-
-/// The text of the reply to a line.
-#[tactic(auto, unfolding(crate::specs::Answers::state_after_line))]
-fn text_of_reply<'h, R: Threads + Sync, G: Gate>(
-    rt: &R,
-    alloc: Global,
-    gate: &G,
-    session: &mut Session<'h>,
-    line: &[u8],
-) -> Result<Vec<u8>, OutOfMemory>
-    requires whole { session.old.failed ≡ false }
-    requires short { length line.now ≤ LINE_LIMIT }
-    ensures text { IfOk result (λ v. v.items ≡ reply_text (answer_line session.old.state line.now).0) }
-    ensures state { OnOk result (session.new.state ≡ state_after_line session.old.state line.now) }
-    ensures whole { OnOk result (session.new.failed ≡ false) }
-{
-    let reply = reply_to(rt, alloc, gate, session, line)?;
-    reply_text(alloc, &reply)
 }
 
 /// The reply to a line: what the session answers its command, or the refusal of a line that gives none.

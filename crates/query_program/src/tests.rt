@@ -61,7 +61,7 @@ const SYNTAX: &[u8] = b"{\"error\":\"syntax\"}\n";
 
 #[test]
 fn lines_are_answered_however_they_are_cut(rt: HostRuntime) -> Result<(), OutOfMemory> {
-    let rows: [(&str, &str); 12] = [
+    let rows: [(&str, &str); 14] = [
         ("", ""),
         (
             "{\"load\":\"a\",\"text\":\"\"}\n",
@@ -92,6 +92,14 @@ fn lines_are_answered_however_they_are_cut(rt: HostRuntime) -> Result<(), OutOfM
         (
             "{\"load\":\"p\",\"text\":\"e\\u0301\"}\n{\"load\":\"q\",\"text\":\"é\"}\n{\"load\":\"r\",\"text\":\"f\"}\n{\"compare\":[\"p\",\"q\"]}\n{\"compare\":[\"p\",\"r\"]}\n{\"compare\":[\"r\",\"r\"]}\n",
             "{\"scalars\":2,\"utf16\":2,\"utf8\":3}\n{\"scalars\":1,\"utf16\":1,\"utf8\":2}\n{\"scalars\":1,\"utf16\":1,\"utf8\":1}\n{\"order\":\"equal\"}\n{\"order\":\"greater\"}\n{\"order\":\"equal\"}\n",
+        ),
+        (
+            "{\"load\":\"v\",\"units\":[55357,56832]}\n{\"on\":\"v\",\"do\":[{\"edit\":[0,0],\"with\":\"x\"},{\"text\":true}]}\n{\"on\":\"v\",\"do\":[{\"at\":0}]}\n",
+            "{\"scalars\":1,\"utf16\":2,\"utf8\":4}\n{\"results\":[{\"scalars\":2,\"utf16\":3,\"utf8\":5},{\"text\":\"x😀\"}]}\n{\"results\":[{\"utf16\":0,\"utf8\":0,\"value\":120}]}\n",
+        ),
+        (
+            "{\"load\":\"a\",\"text\":\"abc\"}\n{\"on\":\"a\",\"do\":[{\"slice\":[1,1]},{\"slice\":[2,1]},{\"slice\":[0,4]}]}\n",
+            "{\"scalars\":3,\"utf16\":3,\"utf8\":3}\n{\"results\":[{\"text\":\"\"},{\"error\":\"out of bounds\",\"utf16\":3},{\"error\":\"out of bounds\",\"utf16\":3}]}\n",
         ),
         (
             "{\"load\":\"b\",\"bytes\":[195,40]}\n{\"on\":\"b\",\"do\":[]}\n",

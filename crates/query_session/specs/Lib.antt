@@ -1,6 +1,4 @@
 pub mod Held
 pub mod State
-pub mod Boundaries
-pub mod Answers
 pub mod Reply
 pub mod Session

@@ -1,5 +1,5 @@
 -- What a command is answered, and what the names stand for afterwards.
-use Rattle.std.specs.Prelude.{◌≡◌, ℕ, List, length, chars, if◌then◌else◌, Option, Some, None}
+use Rattle.std.specs.Prelude.{◌≡◌, ℕ, List, take, length, chars, if◌then◌else◌, Option, Some, None}
 use Rattle.std.specs.Str.{is_utf8}
 use Rattle.std.specs.Str.Lossy.{utf8_valid_len}
 use Rattle.text_spec.specs.Text.{utf8, utf16, repair}
@@ -14,7 +14,7 @@ use Rattle.query_lines.specs.declared.reply.Reply.{Reply}
 use Rattle.query_lines.specs.declared.reply.Reply.TheVariants as reply
 use Rattle.query_lines.specs.Commands.{is_built}
 use Rattle.query_session.specs.State.{State, text_of, is_in_use, has_room, store, forget}
-use Rattle.query_session.specs.Answers.{op_replies}
+use Rattle.batch_workers.specs.Ops.{op_replies, text_after_ops}
 
 abbrev pub not_built : Reply
 not_built = reply.Refused refusal.NotBuilt
@@ -47,14 +47,15 @@ compare_reply a b None right = reply.Refused (refusal.NoName a)
 compare_reply a b (Some left) None = reply.Refused (refusal.NoName b)
 compare_reply a b (Some left) (Some right) = reply.Order (order_of left right)
 
-abbrev pub results_or_not_built : Option (List OpReply) → Reply
-results_or_not_built None = not_built
-results_or_not_built (Some replies) = reply.Results replies
+-- the ops are done on the text of the name, where it is in use, and the name stands for the text that they leave
+abbrev pub on_reply : State → List ℕ → List Op → Option (List ℕ) → Reply × State
+on_reply state name ops None = (reply.Refused (refusal.NoName name), state)
+on_reply state name ops (Some text) = (reply.Results (op_replies text 0 ops), store state name (text_after_ops text ops))
 
--- the ops are done on the text of the name, where it is in use
-abbrev pub on_reply : List ℕ → List Op → Option (List ℕ) → Reply
-on_reply name ops None = reply.Refused (refusal.NoName name)
-on_reply name ops (Some text) = results_or_not_built (op_replies text 0 ops)
+-- what a name is answered, by the answers to the ops where it is in use
+abbrev pub results_or_no_name : List ℕ → Option (List OpReply) → Reply
+results_or_no_name name None = reply.Refused (refusal.NoName name)
+results_or_no_name name (Some replies) = reply.Results replies
 
 -- the reply to a command that is built; every other one gives `not built`
 abbrev pub built_reply : State → Command → Reply × State
@@ -64,15 +65,34 @@ built_reply state (command.Load name (content.Raw bytes)) = load_bytes_reply sta
 built_reply state (command.Copy to source) = copy_reply state to source (text_of state source)
 built_reply state (command.Drop name) = drop_reply state name
 built_reply state (command.Compare a b) = (compare_reply a b (text_of state a) (text_of state b), state)
-built_reply state (command.On name ops) = (on_reply name ops (text_of state name), state)
+built_reply state (command.On name ops) = on_reply state name ops (text_of state name)
 built_reply state _ = (not_built, state)
 
 -- the reply to any command, and the new state
 abbrev pub reply_to : State → Command → Reply × State
 reply_to state c = if is_built c then built_reply state c else (not_built, state)
 
+-- the line is refused whole, and leaves the state
+abbrev pub IsRefused : Reply → Type 0
+IsRefused (reply.Counts scalars utf16 utf8) = ⊥
+IsRefused reply.Copied = ⊥
+IsRefused reply.Dropped = ⊥
+IsRefused (reply.Order order) = ⊥
+IsRefused (reply.Results replies) = ⊥
+IsRefused (reply.Jobs jobs) = ⊥
+IsRefused (reply.Refused refused) = Unit {0}
+
 -- a command that takes no memory: a drop, and a copy of a name onto itself
 abbrev pub IsFree : Command → Type 0
 IsFree (command.Drop name) = Unit {0}
 IsFree (command.Copy to source) = to ≡ source
 IsFree _ = ⊥
+
+-- the state that a command leaves which finds no memory: the one before it, but that some first ops of an `on` line may be done
+abbrev pub IsLeft : State → Command → State → Type 0
+IsLeft old (command.Load name what) new = new ≡ old
+IsLeft old (command.Copy to source) new = new ≡ old
+IsLeft old (command.Drop name) new = new ≡ old
+IsLeft old (command.Compare a b) new = new ≡ old
+IsLeft old (command.On name ops) new = (n : ℕ) × (new ≡ (on_reply old name (take n ops) (text_of old name)).1)
+IsLeft old (command.Batch jobs) new = new ≡ old

@@ -3,18 +3,14 @@
 //! Contracts see a session as a state, a finite map from names to lists of scalars. A step takes one command and gives its reply
 //! and the new state, which are those of the definition `reply_to`.
 //!
-//! Meaning: `specs/State.antt`, `specs/Answers.antt`, `specs/Reply.antt`. Start at `session.rt`.
+//! Meaning: `specs/State.antt`, `specs/Reply.antt`, and of ops `specs/Ops.antt` of batch_workers. Start at `session.rt`.
 #![tactic(auto)]
 
-mod answers;
 mod named;
 mod names;
-mod place;
 mod session;
 #[cfg(test)]
 mod tests;
-#[cfg(test)]
-mod view_tests;
 mod words;
 
 pub use session::Session;

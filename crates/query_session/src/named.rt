@@ -2,7 +2,7 @@
 ghost use Rattle.std.specs.Prelude.{◌≡◌, IfOk, IsOk, OnErr};
 ghost use Rattle.query_lines.specs.WellFormed.{IsName};
 ghost use Rattle.query_lines.specs.Replies.{IsShown};
-ghost use Rattle.query_session.specs.Reply.{copy_reply, drop_reply, compare_reply};
+ghost use Rattle.query_session.specs.Reply.{IsRefused, copy_reply, drop_reply, compare_reply};
 ghost use Rattle.query_session.specs.State.{text_of};
 
 use crate::names::Names;
@@ -24,6 +24,7 @@ pub(crate) fn copy<'h>(
     requires source { IsName source }
     ensures reply { IfOk result (λ r. (r, names.new) ≡ copy_reply names.old to source (text_of names.old source)) }
     ensures itself_is_free { to ≡ source → IsOk result }
+    ensures refused_is_free { OnErr result (¬ (IsRefused (copy_reply names.old to source (text_of names.old source)).0)) }
     ensures shown { IfOk result IsShown }
     ensures kept { OnErr result (names.new ≡ names.old) }
     ensures pass { pass.new ≡ pass.old }
@@ -70,6 +71,7 @@ pub(crate) fn compare<'h>(
     requires first { IsName a }
     requires second { IsName b }
     ensures reply { IfOk result (λ r. r ≡ compare_reply a b (text_of names.old a) (text_of names.old b)) }
+    ensures refused_is_free { OnErr result (¬ (IsRefused (compare_reply a b (text_of names.old a) (text_of names.old b)))) }
     ensures shown { IfOk result IsShown }
     ensures kept { names.new ≡ names.old }
     ensures pass { pass.new ≡ pass.old }

@@ -1,14 +1,14 @@
 //! The values by their names.
-ghost use Rattle.std.specs.Prelude.{◌≡◌, ◌<◌, ℕ, List, true, false, All, Some, None, IfOk, IfSome, MatchOption, OnOk, OnErr, IsTrue, string_bytes};
-ghost use Rattle.query_lines.specs.Commands.{are_built_ops};
+ghost use Rattle.std.specs.Prelude.{◌≡◌, ◌<◌, ℕ, List, true, false, All, Some, None, IfOk, IfSome, take, OnOk, OnErr, IsTrue, string_bytes};
+ghost use Rattle.query_lines.specs.WellFormed.{IsWellFormedOp};
 ghost use Rattle.query_lines.specs.Replies.{IsShownOp};
-ghost use Rattle.query_session.specs.Answers.{op_replies};
+ghost use Rattle.query_session.specs.Reply.{on_reply, results_or_no_name};
 ghost use Rattle.query_session.specs.State.{text_of, is_in_use, has_room, store, forget};
 ghost use Rattle.canon_order.specs.Equivalence.{order_of};
 ghost use Rattle.std.specs.Option.{option_copied, option_map};
 ghost use Rattle.std.specs.FinMap as finite;
 
-use crate::answers::answer_all;
+use batch_workers::run_ops;
 use query_lines::{Op, OpReplies};
 use std::alloc::Global;
 use std::cmp::Ordering;
@@ -162,22 +162,25 @@ impl<'h> Names<'h> {
         }
     }
 
-    // The answers to ops on the text of a name, or nothing where the name isn't in use.
-    pub(crate) fn answer(
+    // Does ops on the value of a name and gives their answers, or nothing where the name isn't in use. Where memory is wanting, some first
+    // ops are done.
+    pub(crate) fn run(
         &mut self,
+        pass: &mut Pass<'h>,
         alloc: Global,
         name: &str,
         ops: &[Op],
     ) -> Result<Option<OpReplies>, OutOfMemory>
-        requires { are_built_ops ops.now ≡ true }
-        ensures answers { IfOk result (λ found. MatchOption found (finite.get self.old name.now ≡ None)
-            (λ replies. (text : List ℕ) × (finite.get self.old name.now ≡ Some text) × (op_replies text 0 ops.now ≡ Some replies))) }
+        requires { All IsWellFormedOp ops.now }
+        ensures done { IfOk result (λ found. (results_or_no_name name.now found, self.new) ≡ on_reply self.old name.now ops.now (text_of self.old name.now)) }
         ensures shown { IfOk result (λ found. IfSome found (λ replies. All IsShownOp replies)) }
-        ensures kept { self.new ≡ self.old }
+        ensures in_use { OnErr result (IsTrue (is_in_use self.old name.now)) }
+        ensures left { OnErr result ((n : ℕ) × (self.new ≡ (on_reply self.old name.now (take n ops.now) (text_of self.old name.now)).1)) }
+        ensures pass { pass.new ≡ pass.old }
     {
         match self.values.get_mut(name) {
             Some(value) => {
-                let replies = answer_all(alloc, value, ops)?;
+                let replies = run_ops(alloc, value, pass, ops, 0)?;
                 Ok(Some(replies))
             }
             None => Ok(None),

@@ -1,22 +1,23 @@
 //! The session and its calls.
-ghost use Rattle.std.specs.Prelude.{◌≡◌, ◌<◌, ◌≤◌, true, false, is_err, length, chars, string_bytes, IfOk, IsTrue, OnOk, OnErr, IsOk};
+ghost use Rattle.std.specs.Prelude.{◌≡◌, ◌≤◌, true, false, is_err, length, chars, string_bytes, All, IfOk, IsTrue, OnOk, OnErr, IsOk};
 ghost use Rattle.std.specs.FinMap as finite;
 ghost use Rattle.text_spec.specs.Text.{utf8, repair};
-ghost use Rattle.query_lines.specs.WellFormed.{IsWellFormed, IsWellFormedContent, IsName, IsShortText, text_limit};
+ghost use Rattle.query_lines.specs.Commands.{is_built, is_built_content};
+ghost use Rattle.query_lines.specs.WellFormed.{IsWellFormed, IsWellFormedContent, IsWellFormedOp, IsName, IsShortText, text_limit};
 ghost use Rattle.query_lines.specs.Replies.{IsShown};
-ghost use Rattle.query_session.specs.Reply.{IsFree, reply_to, load_reply, load_bytes_reply, counts_of};
+ghost use Rattle.query_session.specs.Reply.{IsFree, IsLeft, IsRefused, reply_to, load_reply, load_bytes_reply, on_reply, counts_of};
 ghost use Rattle.query_session.specs.State as state;
 
 use crate::named::{compare, copy, drop_name};
 use crate::names::Names;
-use crate::words::{has_room, no_name, not_built, string_of};
+use crate::words::{has_room, no_name, string_of};
 use outside::Gate;
-use query_lines::{Bytes, Command, Content, Ops, Refusal, Reply, Units, are_built_ops};
+use query_lines::{Bytes, Command, Content, Ops, Refusal, Reply, Units, is_built};
 use simdutf8::compat::from_utf8;
 use std::alloc::Global;
 use std::marker::Model;
 use std::thread::Threads;
-use str_value::{MakeError, Pass, Str};
+use str_value::{Pass, Str};
 use text_spec::OutOfMemory;
 
 /// Names and their texts.
@@ -60,8 +61,9 @@ impl<'h> Session<'h> {
 
     /// The reply to a command, and the state after it.
     ///
-    /// No earlier step may have answered `OutOfMemory`. Where this one does, each name has the text that it had before. A drop and a
-    /// copy of a name onto itself take no memory.
+    /// No earlier step may have answered `OutOfMemory`. Where this one does, each name has the text that it had before, but that some first
+    /// ops may have been done on that of an `on` line. A refused line takes no memory and leaves every name; a drop and a copy of a name
+    /// onto itself take none either.
     pub fn step<R: Threads + Sync, G: Gate>(
         &mut self,
         alloc: Global,
@@ -74,12 +76,13 @@ impl<'h> Session<'h> {
         ensures reply { IfOk result (λ r. (r, self.new.state) ≡ reply_to self.old.state command) }
         ensures shown { IfOk result IsShown }
         ensures free { IsFree command → IsOk result }
-        ensures kept { OnErr result (self.new.state ≡ self.old.state) }
+        ensures refused_is_free { OnErr result (¬ (IsRefused (reply_to self.old.state command).0)) }
+        ensures left { OnErr result (IsLeft self.old.state command self.new.state) }
         ensures failed { self.new.failed ≡ is_err result }
         ensures workers { self.new.workers ≡ self.old.workers }
         ensures pass { self.new.pass ≡ self.old.pass }
     {
-        match reply(&mut self.pass, &mut self.names, alloc, command) {
+        match reply_to(&mut self.pass, &mut self.names, alloc, command) {
             Ok(reply) => Ok(reply),
             Err(refused) => {
                 self.failed = true;
@@ -111,7 +114,8 @@ impl<'h> Session<'h> {
     }
 }
 
-fn reply<'h>(
+// The reply to a command. One that isn't built yet is refused.
+fn reply_to<'h>(
     pass: &mut Pass<'h>,
     names: &mut Names<'h>,
     alloc: Global,
@@ -120,53 +124,76 @@ fn reply<'h>(
     requires { IsWellFormed command }
     ensures reply { IfOk result (λ r. (r, names.new) ≡ reply_to names.old command) }
     ensures free { IsFree command → IsOk result }
+    ensures refused_is_free { OnErr result (¬ (IsRefused (reply_to names.old command).0)) }
     ensures shown { IfOk result IsShown }
-    ensures kept { OnErr result (names.new ≡ names.old) }
+    ensures left { OnErr result (IsLeft names.old command names.new) }
     ensures pass { pass.new ≡ pass.old }
 {
-    match command {
-        Command::Load { name, what } => load_content(pass, names, alloc, name, what),
-        Command::On { name, ops } => on(names, alloc, name, ops),
-        Command::Copy { to, source } => copy(pass, names, alloc, to, source),
-        Command::Drop { name } => Ok(drop_name(pass, names, name)),
-        Command::Compare { a, b } => compare(pass, names, alloc, a, b),
-        Command::Batch { .. } => Ok(not_built()),
+    if is_built(&command) {
+        return built_reply(pass, names, alloc, command);
     }
+    Ok(Reply::Refused(Refusal::NotBuilt))
 }
 
-fn load_content<'h>(
+fn built_reply<'h>(
     pass: &mut Pass<'h>,
     names: &mut Names<'h>,
     alloc: Global,
+    command: Command,
+) -> Result<Reply, OutOfMemory>
+    requires well_formed { IsWellFormed command }
+    requires built { is_built command ≡ true }
+    ensures reply { IfOk result (λ r. (r, names.new) ≡ reply_to names.old command) }
+    ensures free { IsFree command → IsOk result }
+    ensures refused_is_free { OnErr result (¬ (IsRefused (reply_to names.old command).0)) }
+    ensures shown { IfOk result IsShown }
+    ensures left { OnErr result (IsLeft names.old command names.new) }
+    ensures pass { pass.new ≡ pass.old }
+{
+    match command {
+        Command::Load { name, what } => load(pass, names, name, what),
+        Command::On { name, ops } => on(pass, names, alloc, name, ops),
+        Command::Copy { to, source } => copy(pass, names, alloc, to, source),
+        Command::Drop { name } => Ok(drop_name(pass, names, name)),
+        Command::Compare { a, b } => compare(pass, names, alloc, a, b),
+        Command::Batch { .. } => unreachable!(),
+    }
+}
+
+fn load<'h>(
+    pass: &mut Pass<'h>,
+    names: &mut Names<'h>,
     name: Bytes,
     what: Content,
 ) -> Result<Reply, OutOfMemory>
     requires name { IsName name }
     requires what { IsWellFormedContent what }
+    requires built { is_built_content what ≡ true }
     ensures reply { IfOk result (λ r. (r, names.new) ≡ reply_to names.old (Command.Load name what)) }
+    ensures refused_is_free { OnErr result (¬ (IsRefused (reply_to names.old (Command.Load name what)).0)) }
     ensures shown { IfOk result IsShown }
     ensures kept { OnErr result (names.new ≡ names.old) }
     ensures pass { pass.new ≡ pass.old }
 {
     match what {
-        Content::Text(text) => load(pass, names, alloc, name, text),
-        Content::Units(units) => load_units(pass, names, alloc, name, units),
-        Content::Raw(bytes) => load_bytes(pass, names, alloc, name, bytes),
-        Content::Literal(_) => Ok(not_built()),
+        Content::Text(text) => load_text(pass, names, name, text),
+        Content::Units(units) => load_units(pass, names, name, units),
+        Content::Raw(bytes) => load_bytes(pass, names, name, bytes),
+        Content::Literal(_) => unreachable!(),
     }
 }
 
-// Stores a text under a name, unless it would be one name too many.
-fn load<'h>(
+// Stores a text under a name, unless it would be one name too many. Memory is taken for the name alone.
+fn load_text<'h>(
     pass: &mut Pass<'h>,
     names: &mut Names<'h>,
-    alloc: Global,
     name: Bytes,
     text: Bytes,
 ) -> Result<Reply, OutOfMemory>
     requires name { IsName name }
     requires text { IsShortText text }
     ensures reply { IfOk result (λ r. (r, names.new) ≡ load_reply names.old name (chars text)) }
+    ensures refused_is_free { OnErr result (¬ (IsRefused (load_reply names.old name (chars text)).0)) }
     ensures shown { IfOk result IsShown }
     ensures kept { OnErr result (names.new ≡ names.old) }
     ensures pass { pass.new ≡ pass.old }
@@ -175,7 +202,7 @@ fn load<'h>(
     if !has_room(names, name.as_str()) {
         return Ok(Reply::Refused(Refusal::TooManyNames));
     }
-    let value = make(pass, alloc, text.as_slice())?;
+    let value = Str::from_vec(pass, text.into_vec());
     store(pass, names, name, value)
 }
 
@@ -183,13 +210,13 @@ fn load<'h>(
 fn load_units<'h>(
     pass: &mut Pass<'h>,
     names: &mut Names<'h>,
-    alloc: Global,
     name: Bytes,
     units: Units,
 ) -> Result<Reply, OutOfMemory>
     requires name { IsName name }
     requires units { length (utf8 (repair units)) ≤ text_limit }
     ensures reply { IfOk result (λ r. (r, names.new) ≡ load_reply names.old name (repair units)) }
+    ensures refused_is_free { OnErr result (¬ (IsRefused (load_reply names.old name (repair units)).0)) }
     ensures shown { IfOk result IsShown }
     ensures kept { OnErr result (names.new ≡ names.old) }
     ensures pass { pass.new ≡ pass.old }
@@ -198,7 +225,7 @@ fn load_units<'h>(
     if !has_room(names, name.as_str()) {
         return Ok(Reply::Refused(Refusal::TooManyNames));
     }
-    let value = make_units(pass, alloc, units.as_slice())?;
+    let value = Str::from_units(pass, units.into_vec());
     store(pass, names, name, value)
 }
 
@@ -206,13 +233,13 @@ fn load_units<'h>(
 fn load_bytes<'h>(
     pass: &mut Pass<'h>,
     names: &mut Names<'h>,
-    alloc: Global,
     name: Bytes,
     bytes: Bytes,
 ) -> Result<Reply, OutOfMemory>
     requires name { IsName name }
     requires bytes { length bytes ≤ text_limit }
     ensures reply { IfOk result (λ r. (r, names.new) ≡ load_bytes_reply names.old name bytes) }
+    ensures refused_is_free { OnErr result (¬ (IsRefused (load_bytes_reply names.old name bytes).0)) }
     ensures shown { IfOk result IsShown }
     ensures kept { OnErr result (names.new ≡ names.old) }
     ensures pass { pass.new ≡ pass.old }
@@ -222,7 +249,7 @@ fn load_bytes<'h>(
             valid: fault.valid_up_to() as u64,
         }));
     }
-    load(pass, names, alloc, name, bytes)
+    load_text(pass, names, name, bytes)
 }
 
 // Stores a value under a name for which there is room.
@@ -249,46 +276,24 @@ fn store<'h>(
 }
 
 // Does ops on the text of a name.
-fn on(names: &mut Names, alloc: Global, name: Bytes, ops: Ops) -> Result<Reply, OutOfMemory>
-    requires { IsName name }
-    ensures reply { IfOk result (λ r. (r, names.new) ≡ reply_to names.old (Command.On name ops)) }
+fn on<'h>(
+    pass: &mut Pass<'h>,
+    names: &mut Names<'h>,
+    alloc: Global,
+    name: Bytes,
+    ops: Ops,
+) -> Result<Reply, OutOfMemory>
+    requires name { IsName name }
+    requires ops { All IsWellFormedOp ops }
+    ensures reply { IfOk result (λ r. (r, names.new) ≡ on_reply names.old name ops (state.text_of names.old name)) }
+    ensures refused_is_free { OnErr result (¬ (IsRefused (on_reply names.old name ops (state.text_of names.old name)).0)) }
     ensures shown { IfOk result IsShown }
-    ensures kept { names.new ≡ names.old }
+    ensures left { OnErr result (IsLeft names.old (Command.On name ops) names.new) }
+    ensures pass { pass.new ≡ pass.old }
 {
-    if !are_built_ops(ops.as_slice()) {
-        return Ok(not_built());
-    }
     let name = string_of(name);
-    match names.answer(alloc, name.as_str(), ops.as_slice())? {
+    match names.run(pass, alloc, name.as_str(), ops.as_slice())? {
         Some(replies) => Ok(Reply::Results(replies)),
         None => Ok(no_name(name)),
-    }
-}
-
-// The value of a text within its limit, in UTF-8.
-fn make<'h>(pass: &mut Pass<'h>, alloc: Global, text: &[u8]) -> Result<Str<'h>, OutOfMemory>
-    requires { IsShortText text.now }
-    ensures made { IfOk result (λ s. s.text ≡ chars text.now) }
-    ensures pass { pass.new ≡ pass.old }
-{
-    match Str::from_utf8(alloc, pass, text) {
-        Ok(value) => Ok(value),
-        Err(MakeError::OutOfMemory) => Err(OutOfMemory),
-        Err(MakeError::NotUtf8 { .. }) => unreachable!(),
-        Err(MakeError::TooLong { .. }) => unreachable!(),
-    }
-}
-
-// The value of a text within its limit, spelled by UTF-16 units.
-fn make_units<'h>(pass: &mut Pass<'h>, alloc: Global, units: &[u16]) -> Result<Str<'h>, OutOfMemory>
-    requires { length (utf8 (repair units.now)) ≤ text_limit }
-    ensures made { IfOk result (λ s. s.text ≡ repair units.now) }
-    ensures pass { pass.new ≡ pass.old }
-{
-    match Str::from_utf16(alloc, pass, units) {
-        Ok(value) => Ok(value),
-        Err(MakeError::OutOfMemory) => Err(OutOfMemory),
-        Err(MakeError::NotUtf8 { .. }) => unreachable!(),
-        Err(MakeError::TooLong { .. }) => unreachable!(),
     }
 }

@@ -44,36 +44,16 @@ fn lines_get_the_replies_worked_out_by_hand(rt: HostRuntime) -> Result<(), OutOf
             r#"{"results":[{"utf16":0,"utf8":0,"value":null},{"error":"out of bounds","utf16":0}]}"#,
         ),
         (
-            r#"{"load":"f","text":"🇩🇪🇫🇷"}"#,
-            r#"{"scalars":4,"utf16":8,"utf8":16}"#,
-        ),
-        (
-            r#"{"on":"f","do":[{"slice":[0,4]},{"slice":[1,5]},{"at":5}]}"#,
-            r#"{"results":[{"text":"🇩🇪"},{"text":"🇩🇪"},{"utf16":4,"utf8":8,"value":127467}]}"#,
-        ),
-        (
             r#"{"load":"g","text":"😀"}"#,
             r#"{"scalars":1,"utf16":2,"utf8":4}"#,
         ),
         (
-            r#"{"on":"g","do":[{"at":1},{"at":2},{"at":3},{"place":{"utf8":3}},{"place":{"utf8":4}},{"place":{"utf8":5}}]}"#,
-            r#"{"results":[{"utf16":0,"utf8":0,"value":128512},{"utf16":2,"utf8":4,"value":null},{"error":"out of bounds","utf16":2},{"utf16":0,"utf8":0,"value":128512},{"utf16":2,"utf8":4,"value":null},{"error":"out of bounds","utf8":4}]}"#,
+            r#"{"on":"g","do":[{"at":1},{"at":2},{"at":3},{"place":{"utf8":3}}]}"#,
+            r#"{"results":[{"utf16":0,"utf8":0,"value":128512},{"utf16":2,"utf8":4,"value":null},{"error":"out of bounds","utf16":2},{"utf16":0,"utf8":0,"value":128512}]}"#,
         ),
         (
             r#"{"load":"t","text":"abc"}"#,
             r#"{"scalars":3,"utf16":3,"utf8":3}"#,
-        ),
-        (
-            r#"{"on":"t","do":[{"slice":[1,1]},{"slice":[2,1]},{"slice":[0,4]},{"slice":[4,4]},{"text":true}]}"#,
-            r#"{"results":[{"text":""},{"error":"out of bounds","utf16":3},{"error":"out of bounds","utf16":3},{"error":"out of bounds","utf16":3},{"text":"abc"}]}"#,
-        ),
-        (
-            r#"{"load":"a","text":"é日x"}"#,
-            r#"{"scalars":3,"utf16":3,"utf8":6}"#,
-        ),
-        (
-            r#"{"on":"a","do":[{"at":0},{"at":1},{"at":2}]}"#,
-            r#"{"results":[{"utf16":0,"utf8":0,"value":233},{"utf16":1,"utf8":2,"value":26085},{"utf16":2,"utf8":5,"value":120}]}"#,
         ),
         // A slice takes nothing from the text, nor does a refused op: the same line and a later one find it whole.
         (
@@ -84,68 +64,45 @@ fn lines_get_the_replies_worked_out_by_hand(rt: HostRuntime) -> Result<(), OutOf
             r#"{"on":"t","do":[{"text":true},{"count":"utf8"}]}"#,
             r#"{"results":[{"text":"abc"},{"count":3}]}"#,
         ),
-        // The order of the bounds is that of the offsets as given: both are rounded down to 0 here.
-        (
-            r#"{"on":"g","do":[{"slice":[1,0]},{"slice":[0,1]},{"slice":[1,1]},{"slice":[1,2]},{"text":true}]}"#,
-            r#"{"results":[{"error":"out of bounds","utf16":2},{"text":""},{"text":""},{"text":"😀"},{"text":"😀"}]}"#,
-        ),
         (r#"{"on":"t","do":[]}"#, r#"{"results":[]}"#),
+        // An edit is kept for the next line, and is of its own name alone.
+        (r#"{"copy":"s","from":"t"}"#, r#"{"ok":"copy"}"#),
         (
-            r#"{"on":"zz","do":[{"at":0}]}"#,
-            r#"{"error":"no name","name":"zz"}"#,
+            r#"{"on":"t","do":[{"edit":[0,1],"with":"X"},{"edit":[9,9],"with":"Y"},{"edit":[3,3],"with":"Z"}]}"#,
+            r#"{"results":[{"scalars":3,"utf16":3,"utf8":3},{"error":"out of bounds","utf16":3},{"scalars":4,"utf16":4,"utf8":4}]}"#,
         ),
-    ];
-    let mut session = Session::new(rt.alloc(), Pass::none(), 1)?;
-    for (line, wanted) in rows {
-        let reply = answer(&rt, rt.alloc(), &mut session, line.as_bytes())?;
-        assert_eq!(rt; reply.as_slice(), wanted.as_bytes(), "{line}");
-    }
-    let _pass = session.end();
-    Ok(())
-}
-
-#[test]
-fn texts_of_units_get_the_replies_worked_out_by_hand(rt: HostRuntime) -> Result<(), OutOfMemory> {
-    let rows = [
+        (
+            r#"{"on":"t","do":[{"text":true}]}"#,
+            r#"{"results":[{"text":"XbcZ"}]}"#,
+        ),
+        (
+            r#"{"on":"s","do":[{"text":true}]}"#,
+            r#"{"results":[{"text":"abc"}]}"#,
+        ),
+        // Units stay as they are until the first edit.
         (
             r#"{"load":"u","units":[55296,65]}"#,
             r#"{"scalars":2,"utf16":2,"utf8":4}"#,
         ),
         (
-            r#"{"on":"u","do":[{"at":0},{"at":1},{"at":2},{"at":3},{"place":{"utf8":2}},{"place":{"utf8":3}},{"place":{"utf8":5}}]}"#,
-            r#"{"results":[{"utf16":0,"utf8":0,"value":65533},{"utf16":1,"utf8":3,"value":65},{"utf16":2,"utf8":4,"value":null},{"error":"out of bounds","utf16":2},{"utf16":0,"utf8":0,"value":65533},{"utf16":1,"utf8":3,"value":65},{"error":"out of bounds","utf8":4}]}"#,
-        ),
-        (
-            r#"{"on":"u","do":[{"text":true},{"slice":[0,1]},{"slice":[1,2]},{"slice":[2,1]}]}"#,
-            r#"{"results":[{"text":"�A"},{"text":"�"},{"text":"A"},{"error":"out of bounds","utf16":2}]}"#,
+            r#"{"on":"u","do":[{"at":0},{"at":1},{"at":2},{"place":{"utf8":2}},{"place":{"utf8":5}},{"slice":[0,1]}]}"#,
+            r#"{"results":[{"utf16":0,"utf8":0,"value":65533},{"utf16":1,"utf8":3,"value":65},{"utf16":2,"utf8":4,"value":null},{"utf16":0,"utf8":0,"value":65533},{"error":"out of bounds","utf8":4},{"text":"�"}]}"#,
         ),
         (
             r#"{"load":"v","units":[55357,56832]}"#,
             r#"{"scalars":1,"utf16":2,"utf8":4}"#,
         ),
         (
-            r#"{"on":"v","do":[{"at":1},{"place":{"utf8":3}},{"slice":[1,2]},{"slice":[0,1]}]}"#,
-            r#"{"results":[{"utf16":0,"utf8":0,"value":128512},{"utf16":0,"utf8":0,"value":128512},{"text":"😀"},{"text":""}]}"#,
+            r#"{"on":"v","do":[{"edit":[0,0],"with":"x"},{"text":true}]}"#,
+            r#"{"results":[{"scalars":2,"utf16":3,"utf8":5},{"text":"x😀"}]}"#,
         ),
         (
             r#"{"load":"x","text":"ééééééééééééééééééééééééééééééééééééééééééééééééééééééééééééééé😀ééééééééééééééééééééééééééééééééééééééééééééééééééééééééééééééé"}"#,
             r#"{"scalars":127,"utf16":128,"utf8":256}"#,
         ),
         (
-            r#"{"on":"x","do":[{"at":64},{"place":{"utf8":129}},{"at":127},{"slice":[62,65]}]}"#,
-            r#"{"results":[{"utf16":63,"utf8":126,"value":128512},{"utf16":63,"utf8":126,"value":128512},{"utf16":127,"utf8":254,"value":233},{"text":"é😀"}]}"#,
-        ),
-        (
-            r#"{"on":"x","do":[{"count":"scalars"},{"count":"utf8"},{"count":"utf16"},{"count":"characters"}]}"#,
-            r#"{"results":[{"count":127},{"count":256},{"count":128},{"count":127}]}"#,
-        ),
-        (
-            r#"{"load":"f","units":[55356,56809,55356,56810,55356,56811,55356,56823,97,769]}"#,
-            r#"{"scalars":6,"utf16":10,"utf8":19}"#,
-        ),
-        (
-            r#"{"on":"f","do":[{"count":"scalars"},{"count":"utf8"},{"count":"utf16"},{"count":"characters"}]}"#,
-            r#"{"results":[{"count":6},{"count":19},{"count":10},{"count":3}]}"#,
+            r#"{"on":"x","do":[{"at":64},{"place":{"utf8":129}},{"at":127},{"slice":[62,65]},{"count":"characters"}]}"#,
+            r#"{"results":[{"utf16":63,"utf8":126,"value":128512},{"utf16":63,"utf8":126,"value":128512},{"utf16":127,"utf8":254,"value":233},{"text":"é😀"},{"count":127}]}"#,
         ),
     ];
     let mut session = Session::new(rt.alloc(), Pass::none(), 1)?;
@@ -252,16 +209,84 @@ fn names_are_copied_dropped_and_compared(rt: HostRuntime) -> Result<(), OutOfMem
 }
 
 #[test]
+fn refused_lines_and_ops_leave_every_name(rt: HostRuntime) -> Result<(), OutOfMemory> {
+    let rows = [
+        (
+            r#"{"copy":"a","from":"zz"}"#,
+            r#"{"error":"no name","name":"zz"}"#,
+        ),
+        (
+            r#"{"copy":"zz","from":"zz"}"#,
+            r#"{"error":"no name","name":"zz"}"#,
+        ),
+        (r#"{"drop":"zz"}"#, r#"{"error":"no name","name":"zz"}"#),
+        (
+            r#"{"compare":["zz","yy"]}"#,
+            r#"{"error":"no name","name":"zz"}"#,
+        ),
+        (
+            r#"{"compare":["a","yy"]}"#,
+            r#"{"error":"no name","name":"yy"}"#,
+        ),
+        (
+            r#"{"load":"a","bytes":[97,237,160,128]}"#,
+            r#"{"error":"not utf-8","valid":1}"#,
+        ),
+        (
+            r#"{"load":"c","bytes":[195,40]}"#,
+            r#"{"error":"not utf-8","valid":0}"#,
+        ),
+        (r#"{"on":"c","do":[]}"#, r#"{"error":"no name","name":"c"}"#),
+        (
+            r#"{"on":"zz","do":[{"edit":[0,0],"with":"x"}]}"#,
+            r#"{"error":"no name","name":"zz"}"#,
+        ),
+        (
+            r#"{"on":"a","do":[{"edit":[4,4],"with":"x"},{"edit":[0,4],"with":"x"},{"edit":[2,1],"with":"x"}]}"#,
+            r#"{"results":[{"error":"out of bounds","utf16":3},{"error":"out of bounds","utf16":3},{"error":"out of bounds","utf16":3}]}"#,
+        ),
+    ];
+    let names = [
+        (
+            r#"{"on":"a","do":[{"text":true}]}"#,
+            r#"{"results":[{"text":"abc"}]}"#,
+        ),
+        (
+            r#"{"on":"b","do":[{"text":true}]}"#,
+            r#"{"results":[{"text":"é"}]}"#,
+        ),
+        (r#"{"drop":"c"}"#, r#"{"error":"no name","name":"c"}"#),
+        (r#"{"drop":"zz"}"#, r#"{"error":"no name","name":"zz"}"#),
+    ];
+    let mut session = Session::new(rt.alloc(), Pass::none(), 1)?;
+    for line in [r#"{"load":"a","text":"abc"}"#, r#"{"load":"b","text":"é"}"#] {
+        let _reply = answer(&rt, rt.alloc(), &mut session, line.as_bytes())?;
+    }
+    for (refused, wanted) in rows {
+        let reply = answer(&rt, rt.alloc(), &mut session, refused.as_bytes())?;
+        assert_eq!(rt; reply.as_slice(), wanted.as_bytes(), "{refused}");
+        for (question, wanted) in names {
+            let reply = answer(&rt, rt.alloc(), &mut session, question.as_bytes())?;
+            assert_eq!(rt;
+                reply.as_slice(),
+                wanted.as_bytes(),
+                "{question} after {refused}"
+            );
+        }
+    }
+    let _pass = session.end();
+    Ok(())
+}
+
+#[test]
 fn no_more_than_256_names_are_in_use(rt: HostRuntime) -> Result<(), OutOfMemory> {
     let mut session = Session::new(rt.alloc(), Pass::none(), 8)?;
-    for number in 0..256_u32 {
-        let line = format!(in rt.alloc(); "{{\"load\":\"n{number}\",\"text\":\"x\"}}")?;
+    let first = br#"{"load":"n0","text":"x"}"#;
+    let _reply = answer(&rt, rt.alloc(), &mut session, first)?;
+    for number in 1..256_u32 {
+        let line = format!(in rt.alloc(); "{{\"copy\":\"n{number}\",\"from\":\"n0\"}}")?;
         let reply = answer(&rt, rt.alloc(), &mut session, line.as_bytes())?;
-        assert_eq!(rt;
-            reply.as_slice(),
-            r#"{"scalars":1,"utf16":1,"utf8":1}"#.as_bytes(),
-            "{line}"
-        );
+        assert_eq!(rt; reply.as_slice(), br#"{"ok":"copy"}"#.as_slice(), "{line}");
     }
     let rows = [
         (

@@ -9,12 +9,6 @@ use query_lines::{Bytes, Refusal, Reply};
 /// How many names may be in use.
 const MAX_NAMES: usize = 256;
 
-pub(crate) fn not_built() -> Reply
-    ensures { result ≡ Reply.Refused Refusal.NotBuilt }
-{
-    Reply::Refused(Refusal::NotBuilt)
-}
-
 pub(crate) fn no_name(name: String) -> Reply
     ensures reply { result ≡ Reply.Refused (Refusal.NoName (string_bytes name)) }
     ensures shown { IsShown result }

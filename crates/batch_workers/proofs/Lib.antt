@@ -1,0 +1,5 @@
+pub mod Boundaries
+pub mod Parts
+pub mod Indices
+pub mod Edited
+pub mod Runs
