@@ -13,7 +13,5 @@ mod ascii;
 mod form;
 pub mod laws;
 mod order;
-#[cfg(test)]
-mod tests;
 
 pub use order::{compare, equal, key};

@@ -10,8 +10,6 @@
 
 mod edits;
 mod error;
-#[cfg(test)]
-mod tests;
 mod wrote;
 
 pub use edits::{append, replace, reserve};

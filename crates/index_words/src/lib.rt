@@ -22,7 +22,5 @@
 mod index;
 pub mod laws;
 mod layout;
-#[cfg(test)]
-mod tests;
 
 pub use index::Index;

@@ -39,8 +39,6 @@ mod layout;
 mod object;
 mod said;
 mod small;
-#[cfg(test)]
-mod tests;
 
 pub use form::Form;
 pub use layout::SMALL_CAPACITY;

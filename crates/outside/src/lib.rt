@@ -24,6 +24,3 @@ pub use reading::Source;
 pub use stream_sink::IoSink;
 pub use stream_source::IoSource;
 pub use writing::Sink;
-
-#[cfg(test)]
-mod tests;

@@ -14,6 +14,3 @@ pub use encoding::Encoding;
 pub use out_of_memory::OutOfMemory;
 pub use scalar::{scalar_len8, scalar_len16};
 pub use text_list::TextList;
-
-#[cfg(test)]
-mod tests;

@@ -2,7 +2,7 @@
 //! differ in one place are compared by the plain program too, which normalises both.
 ghost use Rattle.std.specs.Prelude.{◌≡◌};
 
-use crate::{compare, equal, key};
+use canon_order::{compare, equal, key};
 use std::alloc::{AllocError, Global};
 use std::cmp::Ordering;
 use std::marker::Brand;

@@ -1,5 +1,5 @@
 //! What no clause says: that a push finds memory, and the widths at the edges that the Unicode Standard's table of well-formed sequences names.
-use crate::{Encoding, OutOfMemory, TextList, scalar_len8, scalar_len16};
+use text_spec::{Encoding, OutOfMemory, TextList, scalar_len8, scalar_len16};
 
 #[test]
 fn scalars_have_the_widths_of_the_standard(rt: HostRuntime) {

@@ -1,7 +1,7 @@
 //! What no clause says: that edits find memory, and what they answer at texts written out by hand and beside a plain program.
 ghost use Rattle.std.specs.Prelude.{◌≡◌};
 
-use crate::{EditError, Wrote, append, replace, reserve};
+use edit_cow::{EditError, Wrote, append, replace, reserve};
 use index_words::Index;
 use std::alloc::{AllocError, Global};
 use std::marker::Brand;

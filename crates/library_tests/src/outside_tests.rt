@@ -1,5 +1,5 @@
 //! What no clause says: that a sink finds memory, that calls succeed, and what readers and writers of std do below.
-use crate::{Failed, Gate, IoSink, IoSource, MemSink, MemSource, OpenGate, Sink, Source};
+use outside::{Failed, Gate, IoSink, IoSource, MemSink, MemSource, OpenGate, Sink, Source};
 use std::io::{Error, ErrorKind, Write};
 use text_spec::OutOfMemory;
 

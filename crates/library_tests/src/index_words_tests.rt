@@ -1,5 +1,5 @@
 //! What no clause says: that the words are those of the layout, worked out by hand, and that equal places hash alike.
-use crate::Index;
+use index_words::Index;
 use std::cmp::Ordering;
 use std::hash::{DefaultHasher, Hash, Hasher};
 use std::process::Abort;

@@ -1,4 +1,4 @@
-use Rattle.canon_order.proofs.tests.answers.Given as goal
+use Rattle.library_tests.proofs.canon_order_tests.answers.Given as goal
 
 abbrev pub ghosts-answers_with : goal.ghosts-answers_with
 ghosts-answers_with a = record { name = a.blank.name; parts = a.blank.parts }

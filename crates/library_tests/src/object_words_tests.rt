@@ -1,5 +1,5 @@
 //! What no clause says: that the words are those of the layout, worked out by hand, form by form.
-use crate::{Form, Object};
+use object_words::{Form, Object};
 use std::process::Abort;
 
 /// The words of an object, with what is read of them.
