@@ -1,5 +1,5 @@
 //! What no clause says: that the calls succeed where the pass shows slots and credits, with answers worked out by hand.
-ghost use Rattle.std.specs.Prelude.{◌≡◌, ◌<◌, [], length, IfSome};
+ghost use Rattle.std.specs.Prelude.{◌≡◌, ◌<◌, length, IfSome};
 
 use crate::{ask_sole, attach, detach, draw, let_go, look, publish, share};
 use slot_model::{Attach, Layout};

@@ -1,37 +1,43 @@
-pub mod Sums
+-- lists, fronts, and where words lie
 pub mod Rows
-pub mod Turns
-pub mod Kept
-pub mod Cutting
+pub mod Rewriting
+pub mod Counting
 pub mod Fronts
 pub mod Below
-pub mod Publishing
-pub mod Looking
-pub mod Filling
+-- the rule: sums over all seats, and what stays known to the seats that do not step
+pub mod Sums
+pub mod Kept
+-- seats are cut and joined
+pub mod Cutting
 pub mod Sharing
-pub mod Releasing
-pub mod Unchanging
-pub mod Soling
-pub mod Retaining
+pub mod Planning
 pub mod Paying
-pub mod Writing
+pub mod Meeting
+pub mod Arming
+-- loads without an event
+pub mod Looking
 pub mod Reciting
+-- steps with an event, each with the lemma that the rule allows it
+pub mod Turns
+pub mod Unchanging
+pub mod Filling
+pub mod Publishing
+pub mod Retaining
+pub mod Soling
+pub mod Writing
 pub mod Fitting
 pub mod Seeing
-pub mod Arming
 pub mod Installing
 pub mod Offering
 pub mod Detaching
-pub mod Referring
-pub mod Rewriting
-pub mod Siding
+pub mod Releasing
 pub mod GivingBackAlone
 pub mod GivingBackBoth
 pub mod GivingBack
+-- the beginning and the end
 pub mod Ending
-pub mod Planning
-pub mod Meeting
-pub mod Counting
+-- from seats to what contracts see of owners
 pub mod Tying
+pub mod Referring
 pub mod Showing
-pub mod Lone
+pub mod Siding

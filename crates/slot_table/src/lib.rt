@@ -31,7 +31,7 @@
 //! | Install | a compare and exchange of that word from 0 (`Installing`) |
 //! | Detach | that word is exchanged for 0, by a closing seat (`GivingBack`) or a sole reference (`Detaching`) |
 //!
-//! No call waits for another thread. Start at `pass.rt`.
+//! No call waits for another thread. Start at `pass.rt`. Owners at work are tried in `slot_uses`.
 #![tactic(auto)]
 
 mod addresses;
@@ -56,12 +56,3 @@ pub use pass::{Missing, Pass};
 pub use reference::Ref;
 pub use side::Installed;
 pub use view::{Role, SeatView};
-
-#[cfg(test)]
-mod literal_tests;
-#[cfg(test)]
-mod sharing_tests;
-#[cfg(test)]
-mod side_tests;
-#[cfg(test)]
-mod tests;

@@ -1,9 +1,9 @@
-//! The heap's literals, read by one owner and by two in threads: that the calls answer, with words worked out by hand.
-ghost use Rattle.std.specs.Prelude.{◌≡◌, ◌<◌, length, IfSome};
+//! The heap's literals, read by two in threads: that the calls answer, with words worked out by hand.
+ghost use Rattle.std.specs.Prelude.{◌≡◌, length, IfSome};
 ghost use Rattle.literal_rows.specs.Rows.{row_words};
 
-use crate::tests::{Anything, closed, ended, layout};
-use crate::{Heap, Literal, Pass, Whole};
+use crate::heaps::{NotEmpty, closed, ended, layout};
+use slot_table::{Heap, Literal, Pass, Whole};
 use std::test::Fail;
 use std::thread::{Threads, join_mut};
 use text_spec::TextList;
@@ -11,7 +11,7 @@ use text_spec::TextList;
 // A literal, and the three words that were read of it.
 #[derive(Drop)]
 struct Reciter<'h> {
-    literal: Literal<'h, Anything>,
+    literal: Literal<'h, NotEmpty>,
     words: (u64, u64, u64),
 }
 
@@ -36,8 +36,8 @@ struct Recited {
 // A literal and its copy are read at once, in two threads. No event is made by it, and nothing is owed at the end.
 fn recite_all<'h, R: Threads>(
     rt: &R,
-    mut pass: Pass<'h, Anything>,
-) -> (Recited, Option<Whole<Anything>>)
+    mut pass: Pass<'h, NotEmpty>,
+) -> (Recited, Option<Whole<NotEmpty>>)
     requires three { (length pass.heap.literals ≡ 3) × (length (row_words pass.heap.literals 2) ≡ 3) }
     ensures kept { IfSome result.1 (λ w. w ≡ pass.entry) }
 {
@@ -77,7 +77,7 @@ fn literals_are_read_copied_and_released(rt: HostRuntime) -> Result<(), Fail> {
     literals.push("")?;
     literals.push("12345678")?;
     literals.push("Grüße, Welt")?;
-    let Ok((heap, whole)) = Heap::<Anything>::open(alloc, &layout(3, 1, 2), &literals) else {
+    let Ok((heap, whole)) = Heap::<NotEmpty>::open(alloc, &layout(3, 1, 2), &literals) else {
         panic!(rt; "no heap")
     };
     let (recited, Some(whole)) = recite_all(&rt, heap.pass(whole)) else {
