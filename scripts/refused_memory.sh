@@ -24,12 +24,22 @@ cc -shared -fPIC -O1 -o "$work/refuse.so" "$work/refuse.c" -ldl
 
 cat >"$work/input" <<'LINES'
 {"load":"a","text":"abc"}
-{"on":"a","do":[{"at":0},{"slice":[0,2]},{"text":true},{"at":9}]}
+{"on":"a","do":[{"at":0},{"slice":[0,2]},{"text":true},{"at":9},{"place":{"utf8":1}},{"count":"characters"}]}
 {"load":"g","text":"😀é"}
 {"on":"g","do":[{"at":1},{"slice":[0,3]}]}
+{"load":"u","units":[55357,56832,55296,101,102,103,104,105,106,107,108,109,110,111]}
+{"load":"b","bytes":[97,98,99,100,101,102,103,104,105,106,107,108,109,110,111,112,113,195,169]}
+{"load":"b","bytes":[195,40]}
+{"on":"u","do":[{"edit":[0,0],"with":"x"},{"text":true},{"edit":[99,99],"with":"x"},{"edit":[0,1],"with":"a longer text than it was"},{"text":true}]}
+{"copy":"c","from":"b"}
+{"copy":"zz","from":"yy"}
+{"on":"c","do":[{"edit":[0,18],"with":""},{"edit":[0,0],"with":"e\u0301"}]}
+{"compare":["c","g"]}
+{"compare":["u","b"]}
+{"drop":"c"}
+{"drop":"c"}
 {"on":"zz","do":[]}
 {"load":"a","text":"\u00e9"}
-{"drop":"a"}
 [
 LINES
 "$program" <"$work/input" >"$work/want"

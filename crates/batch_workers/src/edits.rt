@@ -1,5 +1,5 @@
 //! Edits: the part of a text between two offsets is replaced by another text.
-ghost use Rattle.std.specs.Prelude.{◌≡◌, ◌≤◌, true, false, chars, IsUtf8, IsOk, IfOk, OnOk, OnErr};
+ghost use Rattle.std.specs.Prelude.{◌≡◌, ◌≤◌, false, chars, IsUtf8, IsOk, IfOk, OnOk, OnErr};
 ghost use Rattle.std.specs.Result.{result_unwrap_or};
 ghost use Rattle.text_spec.specs.Boundaries.{IsScalarBoundary};
 ghost use Rattle.text_spec.specs.Views.{width_in, size_in};

@@ -1,5 +1,5 @@
 //! What no clause says: that ops find memory, and what they answer at texts written out by hand, whichever storage a text has.
-ghost use Rattle.std.specs.Prelude.{◌≡◌, ◌≤◌, All, IfOk};
+ghost use Rattle.std.specs.Prelude.{◌≤◌, All, IfOk};
 ghost use Rattle.query_lines.specs.WellFormed.{IsWellFormedOp};
 
 use crate::run_ops;

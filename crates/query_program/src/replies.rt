@@ -1,10 +1,10 @@
-ghost use Rattle.std.specs.Prelude.{◌≡◌, ℕ, ◌+◌, ◌<◌, ◌≤◌, length, ◌++◌, ◌∷◌, ◌⊎◌, [], false, Some, IfOk, OnOk, IsErrOf};
+ghost use Rattle.std.specs.Prelude.{◌≡◌, ◌+◌, ◌<◌, ◌≤◌, length, ◌++◌, ◌⊎◌, [], false, Some, IfOk, OnOk, IsErrOf};
 ghost use Rattle.memchr.specs.Find.{IsFirstByte, is_byte};
 ghost use Rattle.outside.specs.Bytes.{AppendsPrefix};
 ghost use Rattle.outside.specs.Causes.{Rose};
 ghost use Rattle.query_lines.specs.Replies.{IsShown};
-ghost use Rattle.query_program.specs.Answers.{answer, answer_line, answers_from, state_after, state_after_line};
-ghost use Rattle.query_program.specs.Lines.{whole_lines, last_part};
+ghost use Rattle.query_program.specs.Answers.{answer, answer_line, answers_from, state_after_line};
+ghost use Rattle.query_program.specs.Lines.{whole_lines};
 ghost use Rattle.query_program.specs.Writes.{IsWriteStopOf, Answered, AnsweredFirst};
 
 use crate::limits::LINE_LIMIT;

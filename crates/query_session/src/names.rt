@@ -5,7 +5,7 @@ ghost use Rattle.query_lines.specs.Replies.{IsShownOp};
 ghost use Rattle.query_session.specs.Reply.{on_reply, results_or_no_name};
 ghost use Rattle.query_session.specs.State.{text_of, is_in_use, has_room, store, forget};
 ghost use Rattle.canon_order.specs.Equivalence.{order_of};
-ghost use Rattle.std.specs.Option.{option_copied, option_map};
+ghost use Rattle.std.specs.Option.{option_map};
 ghost use Rattle.std.specs.FinMap as finite;
 
 use batch_workers::run_ops;
@@ -28,7 +28,7 @@ pub(crate) struct Names<'h> {
 }
 
 impl<'h> Model for Names<'h> {
-    ghost use Rattle.std.specs.Prelude.{◌≡◌, ◌<◌, ◌^◌, ℕ, List};
+    ghost use Rattle.std.specs.Prelude.{◌≡◌};
     ghost use Rattle.std.specs.FinMap as finite;
     ghost use Rattle.std.specs.Coded.{coded_ℕ, coded_list};
     ghost use Rattle.query_session.specs.State.{State};

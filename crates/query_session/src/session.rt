@@ -31,7 +31,6 @@ pub struct Session<'h> {
 
 impl<'h> Model for Session<'h> {
     ghost use Rattle.std.specs.FinMap as finite;
-    ghost use Rattle.std.specs.Coded.{coded_ℕ, coded_bool, coded_list, coded×, code_by};
     ghost use Rattle.query_session.specs.Session.{Shown, shown_code};
 
     ghost Value = { Shown };
