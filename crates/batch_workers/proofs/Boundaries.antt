@@ -15,7 +15,8 @@ use Rattle.text_spec.proofs.Lengths.{start-utf16}
 use Rattle.text_spec.proofs.Walk.{start-zero, start-suc, start-le, start-mono, down-next, down-start, down-end}
 use Rattle.text_spec.proofs.Widths.{width_some, width_most}
 use Rattle.index_words.specs.Fields.{position_of, transcoded_of}
-use Rattle.unit_views.specs.declared.view.View.TheVariants.{Units}
+use Rattle.word_units.specs.Parts.{all_of}
+use Rattle.unit_views.specs.declared.kind.ElementKind.TheVariants.{Units}
 use Rattle.unit_views.specs.Elements.{element_count, element_index, element_place}
 use Rattle.unit_views.specs.Spots.{Walked}
 use Rattle.unit_views.proofs.Floors.{said}
@@ -28,9 +29,9 @@ pub units-start : (e : Encoding) (t : List ℕ) → units e t ≡ start (width_i
 units-start Utf8 t = length-utf8 t
 units-start Utf16 t = sym (start-utf16 t (length t) ∙ ap (λ front. length (utf16 front)) (take_all (length t) t (omega arith)))
 
-pub units-count : (e : Encoding) (t : List ℕ) → element_count (Units e) t 0 (length t) ≡ units e t
-units-count Utf8 t = ap (λ front. length (utf8 front)) (take_all (length t - 0) t (omega arith))
-units-count Utf16 t = ap (λ front. length (utf16 front)) (take_all (length t - 0) t (omega arith))
+pub units-count : (e : Encoding) (t : List ℕ) → (storage : Encoding) → element_count (Units e) (all_of storage t) ≡ units e t
+units-count Utf8 t storage = ap (λ front. length (utf8 front)) (take_all (length t - 0) t (omega arith))
+units-count Utf16 t storage = ap (λ front. length (utf16 front)) (take_all (length t - 0) t (omega arith))
 
 -- a place where scalar k begins
 pub number-there : (e : Encoding) (t : List ℕ) (k p : ℕ) → k ≤ length t → p ≡ start (width_in e) t k → down (width_in e) t p ≡ k
@@ -102,20 +103,20 @@ across-few : (unit e : Encoding) (t : List ℕ) (offset : ℕ) → offset ≤ st
     → (across (width_in e) (width_in unit) t (start (width_in unit) t 0 + offset)).1 < 4
 across-few unit e t offset h = passed unit t (start (width_in unit) t 0 + offset) (omega (arith, h, start-zero (width_in unit) t))
 
-pub found-at : (unit e : Encoding) (t : List ℕ) (offset index : ℕ) → index ≡ element_index (Units unit) e t 0 offset → offset ≤ units unit t
+pub found-at : (unit e : Encoding) (t : List ℕ) (offset index : ℕ) → index ≡ element_index (Units unit) (all_of e t) offset → offset ≤ units unit t
     → Found unit e t offset (position_of index) (transcoded_of index)
 found-at Utf8 Utf8 t offset index is h =
     let within : offset ≤ start (width_in Utf8) t (length t) = omega (arith, h, units-start Utf8 t) in
-    found-own Utf8 t offset _ _ (said Utf8 t (element_place (Units Utf8) Utf8 t 0 offset) index _ _ (omega arith) is refl refl) within
+    found-own Utf8 t offset _ _ (said Utf8 t (element_place (Units Utf8) (all_of Utf8 t) offset) index _ _ (omega arith) is refl refl) within
 found-at Utf16 Utf16 t offset index is h =
     let within : offset ≤ start (width_in Utf16) t (length t) = omega (arith, h, units-start Utf16 t) in
-    found-own Utf16 t offset _ _ (said Utf16 t (element_place (Units Utf16) Utf16 t 0 offset) index _ _ (omega arith) is refl refl) within
+    found-own Utf16 t offset _ _ (said Utf16 t (element_place (Units Utf16) (all_of Utf16 t) offset) index _ _ (omega arith) is refl refl) within
 found-at Utf8 Utf16 t offset index is h =
     let within : offset ≤ start (width_in Utf8) t (length t) = omega (arith, h, units-start Utf8 t) in
-    found-across Utf8 Utf16 t offset _ _ (said Utf16 t (element_place (Units Utf8) Utf16 t 0 offset) index _ _ (across-few Utf8 Utf16 t offset within) is refl refl)
+    found-across Utf8 Utf16 t offset _ _ (said Utf16 t (element_place (Units Utf8) (all_of Utf16 t) offset) index _ _ (across-few Utf8 Utf16 t offset within) is refl refl)
 found-at Utf16 Utf8 t offset index is h =
     let within : offset ≤ start (width_in Utf16) t (length t) = omega (arith, h, units-start Utf16 t) in
-    found-across Utf16 Utf8 t offset _ _ (said Utf8 t (element_place (Units Utf16) Utf8 t 0 offset) index _ _ (across-few Utf16 Utf8 t offset within) is refl refl)
+    found-across Utf16 Utf8 t offset _ _ (said Utf8 t (element_place (Units Utf16) (all_of Utf8 t) offset) index _ _ (across-few Utf16 Utf8 t offset within) is refl refl)
 
 -- the units that a walk from the start to a boundary passes
 pub walked-units : (unit e : Encoding) (t : List ℕ) (place at reached : ℕ) → Walked (width_in e) (width_in unit) t 0 place 18446744073709551615 at reached

@@ -11,10 +11,11 @@ use Rattle.text_spec.proofs.Walk.{start-zero}
 use Rattle.rounding.specs.Resolving.{Bounds}
 use Rattle.query_lines.specs.declared.reply.OpReply.{OpReply}
 use Rattle.query_lines.specs.declared.reply.OpReply.TheVariants as answer
-use Rattle.str_value.specs.Meaning.{Meaning, storage_of, spliced}
+use Rattle.str_value.specs.Meaning.{Meaning, storage_of, own_part, spliced}
 use Rattle.edit_cow.specs.declared.error.EditError.{EditError}
 use Rattle.edit_cow.specs.declared.error.EditError.TheVariants as refusal
-use Rattle.edit_cow.specs.Edits.{scalar_of}
+use Rattle.rounding.specs.Refusals.{scalar_of}
+use Rattle.word_units.specs.Parts.{all_of}
 use Rattle.edit_cow.specs.Edits as cow
 use Rattle.edit_cow.proofs.Outcomes.{ordered, valid, limit-text}
 use Rattle.batch_workers.specs.Ops.{within_limit}
@@ -22,7 +23,7 @@ use Rattle.batch_workers.proofs.Indices.{boundary_index, number-at}
 
 -- between two boundaries in order, with bytes that are UTF-8
 pub rewritten-is : (now : Meaning) (a b : ℕ) (with : List ℕ) (low high : ℕ) → let number : ℕ → ℕ = λ p. down (width_in (storage_of (now.row))) (now.text) p in
-    scalar_of now a ≡ Some (number low) → scalar_of now b ≡ Some (number high) → low ≤ high → IsUtf8 with
+    scalar_of (own_part now) a ≡ Some (number low) → scalar_of (own_part now) b ≡ Some (number high) → low ≤ high → IsUtf8 with
     → cow.edited now a b with ≡ cow.within_limit (spliced now low high (chars with))
 rewritten-is now a b with low high first second order ok =
     let number : ℕ → ℕ = λ p. down (width_in (storage_of (now.row))) (now.text) p in
@@ -30,7 +31,7 @@ rewritten-is now a b with low high first second order ok =
 
 -- the same by the indices of the two boundaries
 pub edited-is : (kind : Encoding) (now : Meaning) (first last low high from to : ℕ) (with : List ℕ) → let e = storage_of (now.row) in
-    Bounds e (now.text) 0 (length (now.text)) first last → kind ≡ e → from ≡ boundary_index kind low → to ≡ boundary_index kind high → low ≤ high → high ≤ size_in e (now.text)
+    Bounds (all_of e (now.text)) first last → kind ≡ e → from ≡ boundary_index kind low → to ≡ boundary_index kind high → low ≤ high → high ≤ size_in e (now.text)
     → IsUtf8 with → cow.edited now from to with ≡ cow.within_limit (spliced now low high (chars with))
 edited-is kind now first last low high from to with bounds same from-is to-is order inside ok =
     let e = storage_of (now.row) in

@@ -1,12 +1,13 @@
 //! Places of a text: the scalar boundaries that offsets in either encoding are rounded down to.
-ghost use Rattle.std.specs.Prelude.{◌≡◌, ◌-◌, ◌<◌, ◌≤◌, true, false, length, IfOk, IfErr, slice_get};
+ghost use Rattle.std.specs.Prelude.{◌≡◌, ◌-◌, ◌<◌, ◌≤◌, true, false, IfOk, IfErr, slice_get};
 ghost use Rattle.text_spec.specs.Boundaries.{IsScalarBoundary};
 ghost use Rattle.text_spec.specs.Offsets.{start, down, len_utf16};
 ghost use Rattle.text_spec.specs.Views.{width_in, size_in};
 ghost use Rattle.index_words.specs.Fields.{position_of, transcoded_of};
-ghost use Rattle.unit_views.specs.declared.view.View.TheVariants.{Units};
-ghost use Rattle.unit_views.specs.Elements.{same_encoding, element_count, element_index};
-ghost use Rattle.str_value.specs.Meaning.{storage_of};
+ghost use Rattle.unit_views.specs.declared.kind.ElementKind.TheVariants.{Units};
+ghost use Rattle.rounding.specs.Elements.{IsIndexOf, IsPastCount};
+ghost use Rattle.unit_views.specs.Elements.{same_encoding, elements_of};
+ghost use Rattle.str_value.specs.Meaning.{storage_of, own_part};
 ghost use Rattle.batch_workers.specs.Ops.{units, floor, is_out};
 ghost use Rattle.batch_workers.specs.Boundaries.{IsBoundary};
 
@@ -15,7 +16,7 @@ use rounding::bounds;
 use std::sync::ledger::Ledger;
 use str_value::Str;
 use text_spec::Encoding;
-use unit_views::{View, calls, walk_on};
+use unit_views::{ElementKind, calls, walk_on};
 use utf16_view::utf16;
 use word_units::{OutOfBounds, Steps, Text, boundary_at_or_before, scalar_at};
 
@@ -138,14 +139,12 @@ fn index_at<L: Ledger>(
     offset: u64,
     steps: &mut Steps<L>,
 ) -> Result<Index, OutOfBounds>
-    ensures index { IfOk result (λ r. r ≡ element_index (Units unit) (storage_of text.old.row) text.old.text 0 offset) }
-    ensures inside { IfOk result (λ r. offset ≤ element_count (Units unit) text.old.text 0 (length text.old.text)) }
-    ensures refused { IfErr result (λ out. element_count (Units unit) text.old.text 0 (length text.old.text) < offset) }
-    ensures carries { IfErr result (λ out. out.high ≡ element_count (Units unit) text.old.text 0 (length text.old.text)) }
+    ensures index { IfOk result (IsIndexOf (elements_of (Units unit) (own_part text.old)) offset) }
+    ensures refused { IfErr result (IsPastCount (elements_of (Units unit) (own_part text.old)) offset) }
     ensures kept { text.new ≡ text.old }
 {
     match unit {
-        Encoding::Utf8 => calls::index_of_offset(text, View::Units(Encoding::Utf8), offset, steps),
+        Encoding::Utf8 => calls::index_of_offset(text, ElementKind::Units(Encoding::Utf8), offset, steps),
         Encoding::Utf16 => utf16::index_of_offset(text, offset, steps),
     }
 }
@@ -225,7 +224,7 @@ fn place_across<L: Ledger>(
 {
     let (_low, high) = bounds(text);
     let room = offset - from.offset;
-    let view = View::Units(Encoding::Utf16);
+    let view = ElementKind::Units(Encoding::Utf16);
     let (at, reached) = walk_on(text, view, from.place, high, room, steps);
     if at == high && reached < room {
         return Err(from.offset + reached);
@@ -288,6 +287,6 @@ fn units_before<L: Ledger>(text: &mut Str, unit: Encoding, place: u64, steps: &m
     ensures kept { text.new ≡ text.old }
 {
     let _count = text.count();
-    let (_at, before) = walk_on(text, View::Units(unit), 0, place, u64::MAX, steps);
+    let (_at, before) = walk_on(text, ElementKind::Units(unit), 0, place, u64::MAX, steps);
     before
 }

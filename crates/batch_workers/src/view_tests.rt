@@ -10,7 +10,7 @@ use std::process::Abort;
 use std::sync::ledger::{Blank, Ledger};
 use str_value::{MakeError, Pass, Str};
 use text_spec::Encoding;
-use unit_views::{View, calls, scalars, utf8};
+use unit_views::{ElementKind, calls, scalars, utf8};
 use utf16_view::utf16;
 use word_units::{
     OutOfBounds, Steps, Text, boundary_at_or_before, byte_at, fill_backward, fill_forward,
@@ -89,7 +89,7 @@ fn floors<L: Ledger>(value: &mut Str, blank: Blank) -> [Option<u64>; 6]
     let second = place(utf16::index_of_offset(value, 1, &mut steps));
     let asked = Index::new(3, 0, Encoding::Utf8);
     let offset = utf16::offset_of_index(value, asked, &mut steps).ok();
-    let bytes = calls::offset_of_index(value, View::Units(Encoding::Utf8), asked, &mut steps).ok();
+    let bytes = calls::offset_of_index(value, ElementKind::Units(Encoding::Utf8), asked, &mut steps).ok();
     match resolve(value, asked, &mut steps) {
         Ok(index) => {
             let scalar = scalar_floor(value, index, &mut steps).position();
