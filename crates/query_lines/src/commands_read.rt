@@ -2,7 +2,7 @@
 
 ghost use Rattle.std.specs.Prelude.{◌≡◌, ◌≤◌, All, Err, IfOk, IfSome, None, Some, length, suc};
 ghost use Rattle.serde_json.specs.View.{items_view, members_view, view};
-ghost use Rattle.query_lines.specs.Objects.{each_item, list_in};
+ghost use Rattle.query_lines.specs.Objects.{each_item};
 ghost use Rattle.query_lines.specs.Commands.{command_in, compare_in, content_in, copy_in, job_in, jobs_in, keep_in, load_in, named_ops, on_in, one_key_command, two_key_command};
 ghost use Rattle.query_lines.specs.Weights.{members_weight, weight};
 ghost use Rattle.query_lines.specs.WellFormed.{IsName, IsTextContent, IsWellFormed, IsWellFormedJob, IsWellFormedOp, line_limit};
