@@ -17,4 +17,6 @@ mod object_words_tests;
 #[cfg(test)]
 mod outside_tests;
 #[cfg(test)]
+mod slot_model_tests;
+#[cfg(test)]
 mod text_spec_tests;

@@ -26,8 +26,6 @@ mod event;
 pub mod laws;
 mod layout;
 mod state;
-#[cfg(test)]
-mod tests;
 mod words;
 
 pub use attach::Attach;

@@ -2,7 +2,7 @@
 //! table of events, each with the number of its first wrong event.
 ghost use Rattle.std.specs.Prelude.{length, ◌≡◌};
 
-use crate::{Attach, CheckError, Event, Layout, Words, check_history};
+use slot_model::{Attach, CheckError, Event, Layout, Words, check_history};
 use std::alloc::{AllocError, Global};
 
 /// A side has as many words as its slot.
