@@ -1,11 +1,11 @@
 -- How an input is cut into its whole lines and what stands after the last newline.
-use Rattle.std.proofs.Common.{◌≡◌, refl, sym, ap, ◌∙◌, Bool, true, false, cond, List, [], ◌∷◌, ◌++◌, ℕ, zero, suc, ◌+◌, ◌-◌, length, take, drop, get_or, ◌==◌, arith, ◌<◌, ◌≤◌, Option, Some, None, subst, rules, append_assoc, append-nil, length-drop, All}
+use Rattle.std.proofs.Common.{◌≡◌, refl, sym, ap, ◌∙◌, Bool, true, false, cond, List, [], ◌∷◌, ◌++◌, ℕ, zero, suc, ◌+◌, length, take, drop, get_or, ◌==◌, arith, ◌<◌, ◌≤◌, Some, None, subst, append_assoc, length-drop, All}
 use Rattle.std.specs.List.{slice_split, onto_first, position_or_len}
 use Rattle.std.proofs.lemmas.List.Elements.{All-append, All-nil}
 use Rattle.std.proofs.lemmas.List.Splits.{slice_split_first, slice_split_none}
 use Rattle.std.proofs.lemmas.List.{get_or_default}
 use Rattle.std.proofs.lemmas.List.Sums.{position_or_len_is}
-use Rattle.memchr.specs.Find.{Nowhere, Passes, IsFirstByte, is_byte}
+use Rattle.memchr.specs.Find.{IsFirstByte, is_byte}
 use Rattle.query_program.specs.Lines.{lines, less_empty_end, less_last, last_of, whole_lines, last_part}
 
 abbrev pub is_newline : ℕ → Bool

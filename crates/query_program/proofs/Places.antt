@@ -1,8 +1,8 @@
 -- A part of the buffer, and where its first newline stands.
-use Rattle.std.proofs.Common.{◌≡◌, ℕ, ◌+◌, ◌-◌, ◌<◌, ◌≤◌, Bool, true, List, [], ◌++◌, length, take, drop, min, get_or, arith, sym, ap, ◌∙◌, subst, length-take, length-drop, get_or-take, get_or-drop, Some, None}
-use Rattle.std.proofs.lemmas.List.{take_all, drop-drop, drop-take, length-take-le}
+use Rattle.std.proofs.Common.{◌≡◌, ℕ, ◌+◌, ◌-◌, ◌<◌, ◌≤◌, Bool, List, ◌++◌, length, take, drop, get_or, arith, sym, ap, ◌∙◌, length-drop, get_or-take, get_or-drop, Some, None}
+use Rattle.std.proofs.lemmas.List.{drop-drop, drop-take, length-take-le}
 use Rattle.std.proofs.Math.Seq.{take-add, take-append_seam}
-use Rattle.memchr.specs.Find.{Nowhere, Passes, IsFirstByte, is_byte, NoneBefore}
+use Rattle.memchr.specs.Find.{Nowhere, Passes, IsFirstByte}
 
 -- the part less its first n
 pub part-less-front : (xs : List ℕ) (s e n : ℕ) → n ≤ e - s → take (e - (s + n)) (drop (s + n) xs) ≡ drop n (take (e - s) (drop s xs))

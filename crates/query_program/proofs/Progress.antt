@@ -9,15 +9,15 @@ use Rattle.outside.specs.Bytes.{AppendsPrefix}
 use Rattle.query_session.specs.State.{State}
 use Rattle.query_program.specs.Answers.{answers_from, state_after}
 use Rattle.memchr.specs.Find.{IsFirstByte, is_byte}
-use Rattle.query_program.specs.Ends.{Probed, Ends, EndsWith, AnsweredWhole, AnsweredPart, TookFew, EndsByLine, EndsByInput, EndsAnswered, stop_if, limit_stop}
-use Rattle.query_program.specs.Limits.{IsShort, seen, HasLongLine, HasTooManyBytes, IsWithin}
+use Rattle.query_program.specs.Ends.{Ends, EndsWith, AnsweredPart, EndsByInput, stop_if, limit_stop}
+use Rattle.query_program.specs.Limits.{IsShort, seen, IsWithin}
 use Rattle.query_program.specs.Lines.{lines, less_empty_end, whole_lines, last_part}
 use Rattle.query_program.specs.Reads.{Filled, IsReadStop}
 use Rattle.query_program.specs.Writes.{Answered, IsWriteStop, IsWriteStopOf}
 use Rattle.query_program.specs.declared.limits.TheConstants.{LINE_LIMIT, INPUT_LIMIT}
 use Rattle.query_program.specs.declared.stop.Stop.{Stop}
 use Rattle.query_program.specs.declared.stop.Stop.TheVariants.{ReadFault, WriteFault, OutOfMemory, LineTooLong, InputTooLong}
-use Rattle.query_program.proofs.Cuts.{whole_lines-more, last_part-more, lines-more, lines-whole, last_part-no_newline, lines-longer, lines-one_more, whole_lines-short, end-short, one-all, NoNewline, whole_lines-none, last_part-none}
+use Rattle.query_program.proofs.Cuts.{whole_lines-more, last_part-more, lines-more, lines-whole, last_part-no_newline, lines-longer, lines-one_more, whole_lines-short, end-short, one-all, whole_lines-none, last_part-none}
 use Rattle.query_program.proofs.Folds.{answers_from-append, state_after-append, prefix-behind, prefix-front, prefix-more}
 
 pub record Progress (first_state state : State) (first_left left first_written written : Option (List ℕ)) (bytes : List ℕ) (total : ℕ) : Type 0 where

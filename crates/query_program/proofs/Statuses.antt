@@ -1,16 +1,16 @@
 -- What each status says, by how the run over the lines ended.
-use Rattle.std.proofs.Common.{◌≡◌, refl, sym, ap, ◌∙◌, ℕ, ◌+◌, ◌<◌, ◌≤◌, List, [], ◌∷◌, ◌++◌, length, take, Option, Some, None, Result, Ok, Err, IfSome, IsErrOf, ◌⊎◌, ◌↔◌, inl, inr, All, arith, subst, length-append}
+use Rattle.std.proofs.Common.{◌≡◌, refl, sym, ℕ, ◌+◌, ◌<◌, List, [], ◌∷◌, ◌++◌, length, Option, Some, None, Result, Ok, Err, IfSome, IsErrOf, ◌⊎◌, ◌↔◌, inl, inr, All, arith, subst, length-append}
 use Rattle.std.proofs.lemmas.List.{take_all}
 use Rattle.std.proofs.Math.Seq.{get_or-append_seam}
 use Rattle.std.specs.Io.KnownBytes.{Appends, IsAtEnd}
 use Rattle.outside.specs.Bytes.{AppendsPrefix}
 use Rattle.query_session.specs.State.{State}
 use Rattle.query_program.specs.Answers.{answers_from}
-use Rattle.query_program.specs.Ends.{Ends, EndsWith, AnsweredWhole, AnsweredPart, TookFew, EndsByLine, EndsByInput, EndsAnswered}
+use Rattle.query_program.specs.Ends.{Ends, AnsweredWhole, AnsweredPart, TookFew, EndsByLine, EndsByInput}
 use Rattle.query_program.specs.Limits.{IsShort, seen, HasLongLine, HasTooManyBytes, IsWithin}
 use Rattle.query_program.specs.Lines.{lines}
 use Rattle.query_program.specs.Statuses.{IsStatus, IsUnhindered, status_of_end}
-use Rattle.query_program.specs.declared.limits.TheConstants.{LINE_LIMIT, INPUT_LIMIT}
+use Rattle.query_program.specs.declared.limits.TheConstants.{INPUT_LIMIT}
 use Rattle.query_program.specs.declared.stop.Stop.{Stop}
 use Rattle.query_program.specs.declared.stop.Stop.TheVariants.{ReadFault, WriteFault, OutOfMemory, LineTooLong, InputTooLong}
 

@@ -1,11 +1,11 @@
 -- How far a pass over the whole lines in the buffer has come.
-use Rattle.std.proofs.Common.{◌≡◌, refl, sym, ap, ◌∙◌, List, [], ◌∷◌, ◌++◌, ℕ, append_assoc, append-nil, Option, Some, None, subst}
+use Rattle.std.proofs.Common.{◌≡◌, refl, sym, ap, ◌∙◌, List, [], ◌++◌, ℕ, append_assoc, append-nil, Option, None, subst}
 use Rattle.std.specs.Io.KnownBytes.{Appends}
 use Rattle.std.proofs.KnownBytes.{Appends-trans, Appends-nil}
 use Rattle.memchr.specs.Find.{IsFirstByte, is_byte}
 use Rattle.outside.specs.Bytes.{AppendsPrefix}
 use Rattle.query_session.specs.State.{State}
-use Rattle.query_program.specs.Answers.{answer, answers_from, state_after, state_after_line}
+use Rattle.query_program.specs.Answers.{answer, answers_from, state_after}
 use Rattle.query_program.specs.Lines.{whole_lines, last_part}
 use Rattle.query_program.specs.Writes.{Answered, AnsweredFirst, Sent}
 use Rattle.query_program.proofs.Cuts.{whole_lines-none, last_part-none}

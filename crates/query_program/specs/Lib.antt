@@ -4,7 +4,6 @@ pub mod Ends
 pub mod Limits
 pub mod Lines
 pub mod Statuses
-
 -- what this crate's proof needs
 pub mod Reads
 pub mod Stops

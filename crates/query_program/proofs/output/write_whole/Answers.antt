@@ -1,4 +1,4 @@
-use Rattle.std.proofs.Common.{rules, arith, ◌+◌}
+use Rattle.std.proofs.Common.{rules, ◌+◌}
 use Rattle.query_program.proofs.Grown.{Appends-more}
 use Rattle.query_program.proofs.output.write_whole.Goals as goal
 

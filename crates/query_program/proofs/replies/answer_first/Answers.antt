@@ -1,6 +1,4 @@
-use Rattle.std.proofs.Common.{rules, arith, ◌≡◌, take, drop, sym, ap, ◌∙◌, ◌<◌, ◌≤◌, length, length-drop, subst, ◌++◌, ◌+◌}
-use Rattle.query_program.specs.Answers.{answer, state_after_line}
-use Rattle.query_program.specs.Lines.{whole_lines, last_part}
+use Rattle.std.proofs.Common.{rules, arith, ◌≡◌, take, drop, ap, length, length-drop, ◌+◌}
 use Rattle.query_program.proofs.Cuts.{whole_lines-first, last_part-first}
 use Rattle.query_program.proofs.replies.answer_first.Goals as goal
 

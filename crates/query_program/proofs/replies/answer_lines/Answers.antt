@@ -1,7 +1,5 @@
-use Rattle.std.proofs.Common.{rules, ◌≡◌, ℕ, sym, ap, ◌∙◌, subst, OnOk, Ok, Err, Result, length, None, Option}
-use Rattle.std.specs.Io.KnownBytes.{Appends}
+use Rattle.std.proofs.Common.{rules, sym, subst, OnOk, Ok, Err, Result, None}
 use Rattle.memchr.specs.Find.{IsFirstByte, is_byte}
-use Rattle.query_program.specs.Writes.{Answered, AnsweredFirst, Sent}
 use Rattle.query_program.proofs.Steps.{Going, begun-so_far, going-on, begun-more, answered-all, begun-end}
 use Rattle.query_program.proofs.replies.answer_lines.Goals as goal
 

@@ -1,5 +1,5 @@
-use Rattle.std.proofs.Common.{rules, arith, ◌≡◌, ◌<◌, ◌≤◌, [], ◌∷◌, ◌⊎◌, false, length, IfSome, OnOk, IsErrOf, ℕ, ◌+◌, ◌-◌, List, ◌++◌, sym, ap, ◌∙◌, subst, Err, Ok, Result, Option, Some, None}
-use Rattle.std.specs.Io.KnownBytes.{Appends, Consumes, IsAtEnd, Keeps}
+use Rattle.std.proofs.Common.{rules, arith, ◌≡◌, [], ◌∷◌, length, IfSome, ℕ, List, ◌++◌, sym, ap, ◌∙◌, subst, Err, Ok, Result, Option, Some, None}
+use Rattle.std.specs.Io.KnownBytes.{Appends, Consumes, IsAtEnd}
 use Rattle.outside.specs.Bytes.{AppendsPrefix}
 use Rattle.std.proofs.Common.{append-nil}
 use Rattle.std.specs.Prelude.{IsErrAnd}
@@ -7,12 +7,10 @@ use Rattle.std.proofs.lemmas.List.{nil_from_length}
 use Rattle.query_program.specs.Answers.{answers_from}
 use Rattle.query_program.specs.Lines.{less_empty_end, whole_lines}
 use Rattle.query_program.specs.Ends.{Ends, Probed, limit_stop}
-use Rattle.query_program.specs.Reads.{Filled, IsReadStopOf, IsReadStop}
-use Rattle.query_program.specs.Writes.{IsWriteStopOf, IsWriteStop, Answered}
+use Rattle.query_program.specs.Reads.{Filled}
+use Rattle.query_program.specs.Writes.{Answered}
 use Rattle.query_program.specs.declared.stop.Stop.{Stop}
-use Rattle.query_program.specs.declared.stop.Stop.TheVariants.{ReadFault}
-use Rattle.query_program.specs.declared.limits.TheConstants.{LINE_LIMIT, INPUT_LIMIT}
-use Rattle.query_program.proofs.Progress.{Progress, progress-on, ends-read, ends-write, ends-last, ends-line, ends-limit, answered-none, last-end, LastEnd}
+use Rattle.query_program.proofs.Progress.{progress-on, ends-read, ends-write, ends-last, ends-line, ends-limit, answered-none, last-end, LastEnd}
 use Rattle.query_program.proofs.stream.answer_stream.Goals as goal
 
 -- a read that gave nothing took nothing

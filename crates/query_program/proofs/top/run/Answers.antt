@@ -1,9 +1,9 @@
-use Rattle.std.proofs.Common.{◌≡◌, ◌⊎◌, ◌↔◌, [], sym, subst, IfSome}
+use Rattle.std.proofs.Common.{◌≡◌, ◌⊎◌, ◌↔◌, sym, subst, IfSome}
 use Rattle.outside.specs.Causes.{Rose}
 use Rattle.query_program.specs.Answers.{empty}
 use Rattle.query_program.specs.Limits.{HasLongLine, HasTooManyBytes, IsWithin}
-use Rattle.query_program.specs.Statuses.{IsUnhindered, status_of_end}
-use Rattle.query_program.proofs.Statuses.{if_some, Decided, decided, complete}
+use Rattle.query_program.specs.Statuses.{IsUnhindered}
+use Rattle.query_program.proofs.Statuses.{if_some, decided, complete}
 use Rattle.query_program.proofs.top.run.Goals as goal
 
 pub returns-clause-line_too_long : goal.returns-clause-line_too_long

@@ -1,4 +1,4 @@
-use Rattle.std.proofs.Common.{sym, ap, ◌∙◌, drop, arith, rules, ◌≤◌, ◌-◌, ◌+◌, length, subst, Some, None, Option, List, ℕ, take, ◌≡◌}
+use Rattle.std.proofs.Common.{drop, rules, ◌-◌, ◌+◌, subst, Some, None, Option, List, ℕ, take, ◌≡◌}
 use Rattle.memchr.specs.Find.{IsFirstByte, is_byte, Passes}
 use Rattle.query_program.proofs.Places.{first-in_part, none-in_part, nowhere-of_part, nowhere-join}
 use Rattle.query_program.proofs.line_buffer.LineBuffer.first_line.Goals as goal

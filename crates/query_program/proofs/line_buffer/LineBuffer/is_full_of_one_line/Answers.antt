@@ -1,4 +1,4 @@
-use Rattle.std.proofs.Common.{rules, arith, ◌≡◌, ℕ, ◌+◌, ◌≤◌, List, length, false, Option, Some, None, refl}
+use Rattle.std.proofs.Common.{rules, arith, ◌≡◌, ℕ, ◌+◌, ◌≤◌, List, length, Option, Some, None, refl}
 use Rattle.memchr.specs.Find.{IsFirstByte, is_byte}
 use Rattle.query_program.specs.Lines.{last_part}
 use Rattle.query_program.specs.declared.limits.TheConstants.{LINE_LIMIT}
