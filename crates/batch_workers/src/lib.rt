@@ -15,9 +15,5 @@ mod edits;
 mod place;
 mod questions;
 mod run;
-#[cfg(test)]
-mod tests;
-#[cfg(test)]
-mod view_tests;
 
 pub use run::run_ops;

@@ -13,6 +13,4 @@ pub mod laws;
 mod piece;
 mod place;
 mod span;
-#[cfg(test)]
-mod tests;
 mod walk;

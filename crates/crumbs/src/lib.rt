@@ -34,6 +34,3 @@ pub use fitting::Crumbs;
 pub use listing::build;
 pub use stored::StoredText;
 pub use walking::{index_of_offset, offset_of_index};
-
-#[cfg(test)]
-mod tests;

@@ -12,8 +12,6 @@ mod ops_read;
 mod pieces;
 mod read;
 mod reply;
-#[cfg(test)]
-mod tests;
 mod values;
 mod write;
 

@@ -27,6 +27,3 @@ mod top;
 
 pub use limits::{INPUT_LIMIT, LINE_LIMIT};
 pub use top::{Ended, run};
-
-#[cfg(test)]
-mod tests;

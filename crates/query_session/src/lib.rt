@@ -9,8 +9,6 @@
 mod named;
 mod names;
 mod session;
-#[cfg(test)]
-mod tests;
 mod words;
 
 pub use session::Session;

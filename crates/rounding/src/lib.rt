@@ -8,12 +8,8 @@
 #![tactic(auto)]
 
 mod floors;
-#[cfg(test)]
-mod part;
 mod place;
 mod resolution;
-#[cfg(test)]
-mod tests;
 mod walk;
 
 pub use floors::{scalar_floor, utf8_floor, utf16_floor};

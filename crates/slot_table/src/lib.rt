@@ -31,7 +31,7 @@
 //! | Install | a compare and exchange of that word from 0 (`Installing`) |
 //! | Detach | that word is exchanged for 0, by a closing seat (`GivingBack`) or a sole reference (`Detaching`) |
 //!
-//! No call waits for another thread. Start at `pass.rt`. Owners at work are tried in `slot_uses`.
+//! No call waits for another thread. Start at `pass.rt`. Owners at work are tried in `slot_tests`.
 #![tactic(auto)]
 
 mod addresses;

@@ -10,8 +10,6 @@
 #![tactic(auto)]
 
 mod copies;
-#[cfg(test)]
-mod copy_tests;
 mod error;
 mod lengths;
 mod pass;
@@ -20,8 +18,6 @@ mod small;
 mod splicing;
 mod storage;
 mod taking;
-#[cfg(test)]
-mod tests;
 mod text;
 mod units;
 mod value;

@@ -12,8 +12,6 @@ pub mod scalars;
 mod signs;
 mod spot;
 mod steps;
-#[cfg(test)]
-mod tests;
 mod turns;
 pub mod utf8;
 mod walk;

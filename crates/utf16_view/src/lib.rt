@@ -4,9 +4,5 @@
 //! there. Start at `utf16.rt`. No call takes memory.
 #![tactic(auto)]
 
-#[cfg(test)]
-mod crumb_tests;
 mod from_crumbs;
-#[cfg(test)]
-mod tests;
 pub mod utf16;

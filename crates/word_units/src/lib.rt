@@ -32,6 +32,3 @@ pub use steps::Steps;
 pub use text::Text;
 pub use vec_text::VecText;
 pub use walk::{pass_lead, pass_scalar};
-
-#[cfg(test)]
-mod tests;

@@ -1,4 +1,0 @@
-use Rattle.char_view.proofs.tests.first_wrong.Given as goal
-
-abbrev pub ghosts-first_wrong_with : goal.ghosts-first_wrong_with
-ghosts-first_wrong_with a = record { name = a.blank.name; parts = a.blank.parts }

@@ -1,5 +1,0 @@
-use Rattle.std.proofs.Common.{◌≡◌}
-use Rattle.crumbs.proofs.tests.check_byte.Given as goal
-
-abbrev pub invariant-loop-transcoded : goal.invariant-loop-transcoded
-invariant-loop-transcoded g l = l.t ≡ l.fn.t

@@ -1,5 +1,0 @@
-use Rattle.std.proofs.Common.{◌≡◌, true}
-use Rattle.crumbs.proofs.tests.check_questions.Given as goal
-
-abbrev pub invariant-loop-p : goal.invariant-loop-p
-invariant-loop-p g l = (goal.iterator-loop-p g).can_next l.p-iterator × (goal.iterator-loop-p g).is_finite l.p-iterator × (l.t.2 ≡ true)

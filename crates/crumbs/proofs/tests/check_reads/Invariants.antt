@@ -1,8 +1,0 @@
-use Rattle.std.proofs.Common.{◌≡◌}
-use Rattle.crumbs.proofs.tests.check_reads.Given as goal
-
-abbrev pub invariant-offsets : goal.invariant-offsets
-invariant-offsets g l = l.t ≡ l.fn.t
-
-abbrev pub invariant-places : goal.invariant-places
-invariant-places g l = l.t ≡ l.fn.t

@@ -1,5 +1,0 @@
-use Rattle.std.proofs.Common.{◌≡◌}
-use Rattle.crumbs.proofs.tests.check_units.Given as goal
-
-abbrev pub invariant-loop-past : goal.invariant-loop-past
-invariant-loop-past g l = l.t ≡ l.fn.t

@@ -1,4 +1,0 @@
-use Rattle.crumbs.proofs.tests.offset_of_place.Given as goal
-
-abbrev pub ghosts-offset_uncounted : goal.ghosts-offset_uncounted
-ghosts-offset_uncounted g a = record { name = a.blank.name; parts = a.blank.parts }

@@ -1,4 +1,0 @@
-use Rattle.crumbs.proofs.tests.sided.Given as goal
-
-abbrev pub ghosts-build_uncounted : goal.ghosts-build_uncounted
-ghosts-build_uncounted g a = record { name = a.blank.name; parts = a.blank.parts }

@@ -1,0 +1,5 @@
+use Rattle.std.proofs.Common.{◌≡◌}
+use Rattle.slot_tests.proofs.racing.copy_often.Given as goal
+
+abbrev pub invariant-loop : goal.invariant-loop
+invariant-loop l = (l.reference.heap ≡ l.holder.pass.heap) × (l.holder.pass.heap ≡ l.fn.holder.pass.heap)

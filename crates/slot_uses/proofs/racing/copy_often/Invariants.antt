@@ -1,5 +1,0 @@
-use Rattle.std.proofs.Common.{◌≡◌}
-use Rattle.slot_uses.proofs.racing.copy_often.Given as goal
-
-abbrev pub invariant-loop : goal.invariant-loop
-invariant-loop l = (l.reference.heap ≡ l.holder.pass.heap) × (l.holder.pass.heap ≡ l.fn.holder.pass.heap)

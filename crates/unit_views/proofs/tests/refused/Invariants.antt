@@ -1,4 +1,0 @@
-use Rattle.unit_views.proofs.tests.refused.Given as goal
-
-abbrev pub ghosts-refused_with : goal.ghosts-refused_with
-ghosts-refused_with g a = record { name = a.blank.name; parts = a.blank.parts }

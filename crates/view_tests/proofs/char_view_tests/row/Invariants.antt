@@ -1,0 +1,4 @@
+use Rattle.view_tests.proofs.char_view_tests.row.Given as goal
+
+abbrev pub ghosts-row_with : goal.ghosts-row_with
+ghosts-row_with a = record { name = a.blank.name; parts = a.blank.parts }

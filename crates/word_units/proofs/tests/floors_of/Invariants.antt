@@ -1,6 +1,0 @@
-use Rattle.std.proofs.Common.{◌≡◌}
-use Rattle.text_spec.specs.Views.{size_in}
-use Rattle.word_units.proofs.tests.floors_of.Given as goal
-
-abbrev pub invariant-loop-p : goal.invariant-loop-p
-invariant-loop-p g l = (l.t ≡ l.fn.t) × (l.end ≡ size_in (g.T.Text.part l.fn.t).storage (g.T.Text.part l.fn.t).whole)

@@ -1,4 +1,0 @@
-use Rattle.word_units.proofs.tests.read_all.Given as goal
-
-abbrev pub ghosts-read_all_with : goal.ghosts-read_all_with
-ghosts-read_all_with a = record { name = a.blank.name; parts = a.blank.parts }
