@@ -99,7 +99,8 @@ pub(crate) fn offered<'h>(
     word: u64,
 ) -> Option<(bool, u64)>
     requires { held.old.heap ≡ pass.old.heap }
-    ensures { (held.new.heap ≡ pass.new.heap) × (pass.new.heap ≡ pass.old.heap) }
+    ensures heap { (held.new.heap ≡ pass.new.heap) × (pass.new.heap ≡ pass.old.heap) }
+    ensures known { held.new.known ≡ held.old.known }
 {
     if pass.capacity_words() == 0 {
         return None;

@@ -1,5 +1,5 @@
 //! Two owners of one heap, in threads: what no clause says of them together.
-ghost use Rattle.std.specs.Prelude.{◌≡◌, ◌<◌, true, length, None, IfSome};
+ghost use Rattle.std.specs.Prelude.{◌≡◌, ◌<◌, true, length, IfSome};
 
 use crate::heaps::{NotEmpty, closed, ended, layout, offered, opened, share_of, stored};
 use slot_table::{Pass, Ref, Whole};
@@ -7,19 +7,36 @@ use std::alloc::Global;
 use std::test::Fail;
 use std::thread::{Threads, join_mut};
 
-// A pass, a reference that it holds, and how many answers were true.
+// A pass, a reference that it holds, what it is to do, and how many answers were as wanted. Then, of an offer that it made: whether that won, the
+// word that it read of the side, and whether its pass has one free slot fewer where it won and as many as before where it lost.
 #[derive(Drop)]
 struct Holder<'h> {
     pass: Pass<'h, NotEmpty>,
     held: Option<Ref<'h, NotEmpty>>,
+    work: Work,
     yes: u64,
+    won: bool,
+    found: u64,
+    slots_are_right: bool,
+}
+
+// What a holder does in its thread.
+#[derive(Clone, Copy)]
+enum Work {
+    LetGo,
+    CopyOften,
+    Publish { word: u64 },
+    TakeOver { word: u64 },
+    WriteOften,
+    PublishOften,
+    Offer { word: u64, pause: u32 },
 }
 
 // It gives its reference up, and counts the answer.
 fn let_go<'h>(holder: &mut Holder<'h>)
-    requires { IfSome holder.old.held (λ r. r.heap ≡ holder.old.pass.heap) }
+    requires { IfSome holder.old.held (λ r. (r.heap ≡ holder.old.pass.heap) × (0 < length r.known)) }
     ensures pass { holder.new.pass.heap ≡ holder.old.pass.heap }
-    ensures held { IfSome holder.new.held (λ r. r.heap ≡ holder.new.pass.heap) }
+    ensures held { IfSome holder.new.held (λ r. (r.heap ≡ holder.new.pass.heap) × (0 < length r.known)) }
 {
     if let Some(reference) = holder.held.take() {
         if reference.release(&mut holder.pass) {
@@ -30,9 +47,9 @@ fn let_go<'h>(holder: &mut Holder<'h>)
 
 // It has its reference a second time and gives that up, a hundred times, and counts the copies that were the last.
 fn copy_often<'h>(holder: &mut Holder<'h>)
-    requires { IfSome holder.old.held (λ r. r.heap ≡ holder.old.pass.heap) }
+    requires { IfSome holder.old.held (λ r. (r.heap ≡ holder.old.pass.heap) × (0 < length r.known)) }
     ensures pass { holder.new.pass.heap ≡ holder.old.pass.heap }
-    ensures held { IfSome holder.new.held (λ r. r.heap ≡ holder.new.pass.heap) }
+    ensures held { IfSome holder.new.held (λ r. (r.heap ≡ holder.new.pass.heap) × (0 < length r.known)) }
 {
     let Some(mut reference) = holder.held.take() else {
         return;
@@ -47,102 +64,11 @@ fn copy_often<'h>(holder: &mut Holder<'h>)
     holder.held = Some(reference);
 }
 
-// One slot with two references, each with a pass of its own.
-fn shared_out<'h>(alloc: Global, pass: &mut Pass<'h, NotEmpty>) -> Option<(Holder<'h>, Holder<'h>)>
-    ensures pass { pass.new.heap ≡ pass.old.heap }
-    ensures holders { IfSome result (λ t. (t.0.pass.heap ≡ pass.old.heap) × (t.1.pass.heap ≡ pass.old.heap) × IfSome t.0.held (λ r. r.heap ≡ pass.old.heap) × IfSome t.1.held (λ r. r.heap ≡ pass.old.heap)) }
-{
-    let mut one = stored(pass, 7)?;
-    let other = one.retain(pass)?;
-    let first = share_of(alloc, pass, 0)?;
-    let second = share_of(alloc, pass, 0)?;
-    Some((
-        Holder {
-            pass: first,
-            held: Some(one),
-            yes: 0,
-        },
-        Holder {
-            pass: second,
-            held: Some(other),
-            yes: 0,
-        },
-    ))
-}
-
-// All that two holders have comes to a pass. How many answers were true.
-fn gathered<'h>(pass: &mut Pass<'h, NotEmpty>, one: Holder<'h>, other: Holder<'h>) -> u64
-    requires one { (one.pass.heap ≡ pass.old.heap) × IfSome one.held (λ r. r.heap ≡ pass.old.heap) }
-    requires other { (other.pass.heap ≡ pass.old.heap) × IfSome other.held (λ r. r.heap ≡ pass.old.heap) }
-    ensures { pass.new.heap ≡ pass.old.heap }
-{
-    let mut one = one;
-    let mut other = other;
-    let_go(&mut one);
-    let_go(&mut other);
-    pass.join(one.pass);
-    pass.join(other.pass);
-    one.yes.wrapping_add(other.yes)
-}
-
-// Both give their reference up, at once. How many answers were true.
-fn both_let_go<'h, R: Threads>(rt: &R, alloc: Global, pass: &mut Pass<'h, NotEmpty>) -> Option<u64>
-    ensures { pass.new.heap ≡ pass.old.heap }
-{
-    let (mut one, mut other) = shared_out(alloc, pass)?;
-    join_mut(rt, &mut || let_go(&mut one), &mut || let_go(&mut other));
-    Some(gathered(pass, one, other))
-}
-
-// The same a thousand times. How often exactly one answer was true.
-fn both_let_go_often<'h, R: Threads>(
-    rt: &R,
-    alloc: Global,
-    pass: &mut Pass<'h, NotEmpty>,
-) -> Option<u64>
-    ensures { pass.new.heap ≡ pass.old.heap }
-{
-    let mut right: u64 = 0;
-    for _ in 0..1000 {
-        if both_let_go(rt, alloc, pass) == Some(1) {
-            right = right.wrapping_add(1);
-        }
-    }
-    Some(right)
-}
-
-// Both copy often, at once. Then the second gives its own up, and the first asks whether it is alone. How many releases were the last.
-fn both_copy<'h, R: Threads>(rt: &R, alloc: Global, pass: &mut Pass<'h, NotEmpty>) -> Option<u64>
-    ensures { pass.new.heap ≡ pass.old.heap }
-{
-    let (mut one, mut other) = shared_out(alloc, pass)?;
-    join_mut(
-        rt,
-        &mut || copy_often(&mut one),
-        &mut || copy_often(&mut other),
-    );
-    let_go(&mut other);
-    let mut mine = one.held.take()?;
-    if !mine.sole() {
-        return None;
-    }
-    one.held = Some(mine);
-    Some(gathered(pass, one, other))
-}
-
-// It publishes a word.
-fn publish<'h>(holder: &mut Holder<'h>, word: u64)
-    ensures pass { holder.new.pass.heap ≡ holder.old.pass.heap }
-    ensures held { IfSome holder.new.held (λ r. (r.heap ≡ holder.new.pass.heap) × (0 < length r.known)) }
-{
-    holder.held = stored(&mut holder.pass, word);
-}
-
 // It reads what the other published and gives that up, and counts it where that was the word, and the last reference.
 fn take_over<'h>(holder: &mut Holder<'h>, word: u64)
     requires { IfSome holder.old.held (λ r. (r.heap ≡ holder.old.pass.heap) × (0 < length r.known)) }
     ensures pass { holder.new.pass.heap ≡ holder.old.pass.heap }
-    ensures held { holder.new.held ≡ None }
+    ensures held { IfSome holder.new.held (λ r. (r.heap ≡ holder.new.pass.heap) × (0 < length r.known)) }
 {
     if let Some(mut reference) = holder.held.take() {
         let read = reference.read(0);
@@ -150,58 +76,6 @@ fn take_over<'h>(holder: &mut Holder<'h>, word: u64)
             holder.yes = holder.yes.wrapping_add(1);
         }
     }
-}
-
-// Two holders with nothing yet, each with a pass of so many slots.
-fn two_holders<'h>(
-    alloc: Global,
-    pass: &mut Pass<'h, NotEmpty>,
-    slots: u32,
-) -> Option<(Holder<'h>, Holder<'h>)>
-    ensures pass { pass.new.heap ≡ pass.old.heap }
-    ensures holders { IfSome result (λ t. (t.0.pass.heap ≡ pass.old.heap) × (t.1.pass.heap ≡ pass.old.heap) × (t.0.held ≡ None) × (t.1.held ≡ None)) }
-{
-    let first = share_of(alloc, pass, slots)?;
-    let second = share_of(alloc, pass, slots)?;
-    Some((
-        Holder {
-            pass: first,
-            held: None,
-            yes: 0,
-        },
-        Holder {
-            pass: second,
-            held: None,
-            yes: 0,
-        },
-    ))
-}
-
-// Both publish, at once, hand their references to each other, and give them up, again and again. How many references went right.
-fn hand_over_often<'h, R: Threads>(
-    rt: &R,
-    alloc: Global,
-    pass: &mut Pass<'h, NotEmpty>,
-) -> Option<u64>
-    ensures { pass.new.heap ≡ pass.old.heap }
-{
-    let (mut one, mut other) = two_holders(alloc, pass, 1)?;
-    for _ in 0..1000 {
-        join_mut(
-            rt,
-            &mut || publish(&mut one, 11),
-            &mut || publish(&mut other, 22),
-        );
-        let handed = one.held.take();
-        one.held = other.held.take();
-        other.held = handed;
-        join_mut(
-            rt,
-            &mut || take_over(&mut one, 22),
-            &mut || take_over(&mut other, 11),
-        );
-    }
-    Some(gathered(pass, one, other))
 }
 
 // The first word is written, and read back.
@@ -215,23 +89,34 @@ fn write_first<'h>(reference: &mut Ref<'h, NotEmpty>, word: u64) -> u64
     reference.read(0)
 }
 
-// It writes its slot's first word in place, again and again, and counts the words that were read back.
-fn write_often<'h>(holder: &mut Holder<'h>)
-    requires { IfSome holder.old.held (λ r. r.heap ≡ holder.old.pass.heap) }
-    ensures pass { holder.new.pass.heap ≡ holder.old.pass.heap }
-    ensures held { IfSome holder.new.held (λ r. r.heap ≡ holder.new.pass.heap) }
+// The first word is written in place, again and again. How many of the words were read back.
+fn write_all<'h>(reference: &mut Ref<'h, NotEmpty>, capacity_words: u32) -> u64
+    requires { capacity_words ≡ reference.old.heap.layout.capacity_words }
+    ensures { reference.new.heap ≡ reference.old.heap }
 {
-    let Some(mut reference) = holder.held.take() else {
-        return;
-    };
-    if holder.pass.capacity_words() > 0 {
-        for word in 0..1000u64 {
-            if reference.bare() && write_first(&mut reference, word) == word {
-                holder.yes = holder.yes.wrapping_add(1);
-            }
+    if capacity_words == 0 {
+        return 0;
+    }
+    let mut right: u64 = 0;
+    for word in 0..1000u64 {
+        if reference.bare() && write_first(reference, word) == word {
+            right = right.wrapping_add(1);
         }
     }
-    holder.held = Some(reference);
+    right
+}
+
+// It writes its slot in place, counts the words that were read back, and gives the slot up.
+fn write_often<'h>(holder: &mut Holder<'h>)
+    requires { IfSome holder.old.held (λ r. (r.heap ≡ holder.old.pass.heap) × (0 < length r.known)) }
+    ensures pass { holder.new.pass.heap ≡ holder.old.pass.heap }
+    ensures held { IfSome holder.new.held (λ r. (r.heap ≡ holder.new.pass.heap) × (0 < length r.known)) }
+{
+    if let Some(mut reference) = holder.held.take() {
+        let right = write_all(&mut reference, holder.pass.capacity_words());
+        holder.yes = holder.yes.wrapping_add(right);
+        reference.release(&mut holder.pass);
+    }
 }
 
 // It publishes a word, reads it back and gives the slot up, again and again, and counts the slots that were idle again.
@@ -249,88 +134,211 @@ fn publish_often<'h>(holder: &mut Holder<'h>)
     }
 }
 
-// Both publish, at once, each with a slot of its own.
-fn both_publish<'h, R: Threads>(rt: &R, alloc: Global, pass: &mut Pass<'h, NotEmpty>) -> Option<u64>
-    ensures { pass.new.heap ≡ pass.old.heap }
+// It reads its slot for a while, and offers a word as its side.
+fn offer<'h>(holder: &mut Holder<'h>, word: u64, pause: u32)
+    requires { IfSome holder.old.held (λ r. (r.heap ≡ holder.old.pass.heap) × (0 < length r.known)) }
+    ensures pass { holder.new.pass.heap ≡ holder.old.pass.heap }
+    ensures held { IfSome holder.new.held (λ r. (r.heap ≡ holder.new.pass.heap) × (0 < length r.known)) }
 {
-    let (mut one, mut other) = two_holders(alloc, pass, 1)?;
-    join_mut(
-        rt,
-        &mut || publish_often(&mut one),
-        &mut || publish_often(&mut other),
-    );
-    Some(gathered(pass, one, other))
-}
-
-// One writes in place, and the other publishes beside it.
-fn write_beside<'h, R: Threads>(rt: &R, alloc: Global, pass: &mut Pass<'h, NotEmpty>) -> Option<u64>
-    ensures { pass.new.heap ≡ pass.old.heap }
-{
-    let reference = stored(pass, 7)?;
-    let (mut one, mut other) = two_holders(alloc, pass, 0)?;
-    let slots = share_of(alloc, pass, 1)?;
-    other.pass.join(slots);
-    one.held = Some(reference);
-    join_mut(
-        rt,
-        &mut || write_often(&mut one),
-        &mut || publish_often(&mut other),
-    );
-    let right = one.yes.wrapping_add(other.yes);
-    gathered(pass, one, other);
-    Some(right)
-}
-
-// A pass, a reference, the word that it offers as a side, how often it reads its slot before, whether that won, the word that it then reads of the side, and whether its pass has
-// one free slot fewer where it won, and as many as before where it lost.
-#[derive(Drop)]
-struct Racer<'h> {
-    pass: Pass<'h, NotEmpty>,
-    held: Ref<'h, NotEmpty>,
-    offer: u64,
-    pause: u32,
-    won: bool,
-    found: u64,
-    slots_are_right: bool,
-}
-
-fn race<'h>(racer: &mut Racer<'h>)
-    requires { (racer.old.held.heap ≡ racer.old.pass.heap) × (0 < length racer.old.held.known) }
-    ensures { (racer.new.held.heap ≡ racer.new.pass.heap) × (racer.new.pass.heap ≡ racer.old.pass.heap) }
-{
-    for _ in 0..racer.pause {
-        racer.held.read(0);
+    let Some(mut reference) = holder.held.take() else {
+        return;
+    };
+    for _ in 0..pause {
+        reference.read(0);
     }
-    let before = racer.pass.free_slots();
-    if let Some((won, found)) = offered(&mut racer.held, &mut racer.pass, racer.offer) {
-        racer.won = won;
-        racer.found = found;
+    let before = holder.pass.free_slots();
+    if let Some((won, found)) = offered(&mut reference, &mut holder.pass, word) {
+        holder.won = won;
+        holder.found = found;
         let taken = if won { 1 } else { 0 };
-        racer.slots_are_right = before.wrapping_sub(racer.pass.free_slots()) == taken;
+        holder.slots_are_right = before.wrapping_sub(holder.pass.free_slots()) == taken;
+    }
+    holder.held = Some(reference);
+}
+
+fn work_on<'h>(holder: &mut Holder<'h>)
+    requires { IfSome holder.old.held (λ r. (r.heap ≡ holder.old.pass.heap) × (0 < length r.known)) }
+    ensures pass { holder.new.pass.heap ≡ holder.old.pass.heap }
+    ensures held { IfSome holder.new.held (λ r. (r.heap ≡ holder.new.pass.heap) × (0 < length r.known)) }
+{
+    match holder.work {
+        Work::LetGo => let_go(holder),
+        Work::CopyOften => copy_often(holder),
+        Work::Publish { word } => holder.held = stored(&mut holder.pass, word),
+        Work::TakeOver { word } => take_over(holder, word),
+        Work::WriteOften => write_often(holder),
+        Work::PublishOften => publish_often(holder),
+        Work::Offer { word, pause } => offer(holder, word, pause),
     }
 }
 
-fn ready<'h>(
+// Both work, at once.
+fn at_once<'h, R: Threads>(
+    rt: &R,
+    one: Holder<'h>,
+    first: Work,
+    other: Holder<'h>,
+    second: Work,
+) -> (Holder<'h>, Holder<'h>)
+    requires one { IfSome one.held (λ r. (r.heap ≡ one.pass.heap) × (0 < length r.known)) }
+    requires other { (other.pass.heap ≡ one.pass.heap) × IfSome other.held (λ r. (r.heap ≡ one.pass.heap) × (0 < length r.known)) }
+    ensures passes { (result.0.pass.heap ≡ one.entry.pass.heap) × (result.1.pass.heap ≡ one.entry.pass.heap) }
+    ensures one { IfSome result.0.held (λ r. (r.heap ≡ one.entry.pass.heap) × (0 < length r.known)) }
+    ensures other { IfSome result.1.held (λ r. (r.heap ≡ one.entry.pass.heap) × (0 < length r.known)) }
+{
+    let mut one = one;
+    let mut other = other;
+    one.work = first;
+    other.work = second;
+    join_mut(rt, &mut || work_on(&mut one), &mut || work_on(&mut other));
+    (one, other)
+}
+
+// A holder of a reference, or of none yet, with a pass of so many slots.
+fn holder_of<'h>(
     alloc: Global,
     pass: &mut Pass<'h, NotEmpty>,
-    held: Ref<'h, NotEmpty>,
-    offer: u64,
-    pause: u32,
-) -> Option<Racer<'h>>
-    requires { (held.heap ≡ pass.old.heap) × (0 < length held.known) }
+    slots: u32,
+    held: Option<Ref<'h, NotEmpty>>,
+) -> Option<Holder<'h>>
     ensures pass { pass.new.heap ≡ pass.old.heap }
-    ensures racer { IfSome result (λ r. (r.held.heap ≡ pass.old.heap) × (r.pass.heap ≡ pass.old.heap) × (0 < length r.held.known)) }
+    ensures holder { IfSome result (λ h. (h.pass.heap ≡ pass.old.heap) × (h.held ≡ held.entry)) }
 {
-    let share = share_of(alloc, pass, 1)?;
-    Some(Racer {
+    let share = share_of(alloc, pass, slots)?;
+    Some(Holder {
         pass: share,
         held,
-        offer,
-        pause,
+        work: Work::LetGo,
+        yes: 0,
         won: false,
         found: 0,
         slots_are_right: false,
     })
+}
+
+// One slot with two references, each with a pass of its own that has so many slots.
+fn shared_out<'h>(
+    alloc: Global,
+    pass: &mut Pass<'h, NotEmpty>,
+    slots: u32,
+) -> Option<(Holder<'h>, Holder<'h>)>
+    ensures pass { pass.new.heap ≡ pass.old.heap }
+    ensures passes { IfSome result (λ t. (t.0.pass.heap ≡ pass.old.heap) × (t.1.pass.heap ≡ pass.old.heap)) }
+    ensures one { IfSome result (λ t. IfSome t.0.held (λ r. (r.heap ≡ pass.old.heap) × (0 < length r.known))) }
+    ensures other { IfSome result (λ t. IfSome t.1.held (λ r. (r.heap ≡ pass.old.heap) × (0 < length r.known))) }
+{
+    let mut one = stored(pass, 7)?;
+    let other = one.retain(pass)?;
+    let first = holder_of(alloc, pass, slots, Some(one))?;
+    let second = holder_of(alloc, pass, slots, Some(other))?;
+    Some((first, second))
+}
+
+// All that two holders have comes to a pass. How many answers were as wanted.
+fn gathered<'h>(pass: &mut Pass<'h, NotEmpty>, one: Holder<'h>, other: Holder<'h>) -> u64
+    requires passes { (one.pass.heap ≡ pass.old.heap) × (other.pass.heap ≡ pass.old.heap) }
+    requires one { IfSome one.held (λ r. (r.heap ≡ pass.old.heap) × (0 < length r.known)) }
+    requires other { IfSome other.held (λ r. (r.heap ≡ pass.old.heap) × (0 < length r.known)) }
+    ensures { pass.new.heap ≡ pass.old.heap }
+{
+    let mut one = one;
+    let mut other = other;
+    let_go(&mut one);
+    let_go(&mut other);
+    pass.join(one.pass);
+    pass.join(other.pass);
+    one.yes.wrapping_add(other.yes)
+}
+
+// Both give their reference up, at once. How many answers were true.
+fn both_let_go<'h, R: Threads>(rt: &R, alloc: Global, pass: &mut Pass<'h, NotEmpty>) -> Option<u64>
+    ensures { pass.new.heap ≡ pass.old.heap }
+{
+    let (one, other) = shared_out(alloc, pass, 0)?;
+    let (one, other) = at_once(rt, one, Work::LetGo, other, Work::LetGo);
+    Some(gathered(pass, one, other))
+}
+
+// The same a thousand times. How often exactly one answer was true.
+fn both_let_go_often<'h, R: Threads>(rt: &R, alloc: Global, pass: &mut Pass<'h, NotEmpty>) -> u64
+    ensures { pass.new.heap ≡ pass.old.heap }
+{
+    let mut right: u64 = 0;
+    for _ in 0..1000 {
+        if both_let_go(rt, alloc, pass) == Some(1) {
+            right = right.wrapping_add(1);
+        }
+    }
+    right
+}
+
+// Both copy often, at once. Then the second gives its own up, and the first asks whether it is alone. How many releases were the last.
+fn both_copy<'h, R: Threads>(rt: &R, alloc: Global, pass: &mut Pass<'h, NotEmpty>) -> Option<u64>
+    ensures { pass.new.heap ≡ pass.old.heap }
+{
+    let (one, other) = shared_out(alloc, pass, 0)?;
+    let (mut one, mut other) = at_once(rt, one, Work::CopyOften, other, Work::CopyOften);
+    let_go(&mut other);
+    let mut mine = one.held.take()?;
+    if !mine.sole() {
+        return None;
+    }
+    one.held = Some(mine);
+    Some(gathered(pass, one, other))
+}
+
+// Both publish, at once, hand their references to each other, and give them up, again and again. How many references went right.
+fn hand_over_often<'h, R: Threads>(
+    rt: &R,
+    alloc: Global,
+    pass: &mut Pass<'h, NotEmpty>,
+) -> Option<u64>
+    ensures { pass.new.heap ≡ pass.old.heap }
+{
+    let mut one = holder_of(alloc, pass, 1, None)?;
+    let mut other = holder_of(alloc, pass, 1, None)?;
+    for _ in 0..1000 {
+        let (mut first, mut second) = at_once(
+            rt,
+            one,
+            Work::Publish { word: 11 },
+            other,
+            Work::Publish { word: 22 },
+        );
+        let handed = first.held.take();
+        first.held = second.held.take();
+        second.held = handed;
+        (one, other) = at_once(
+            rt,
+            first,
+            Work::TakeOver { word: 22 },
+            second,
+            Work::TakeOver { word: 11 },
+        );
+    }
+    Some(gathered(pass, one, other))
+}
+
+// Both publish, each into a slot of its own; or the first writes in place, and the second publishes beside it.
+fn publish_beside<'h, R: Threads>(
+    rt: &R,
+    alloc: Global,
+    pass: &mut Pass<'h, NotEmpty>,
+    writes: bool,
+) -> Option<u64>
+    ensures { pass.new.heap ≡ pass.old.heap }
+{
+    let held = if writes { stored(pass, 7) } else { None };
+    let slots = if writes { 0 } else { 1 };
+    let work = if writes {
+        Work::WriteOften
+    } else {
+        Work::PublishOften
+    };
+    let one = holder_of(alloc, pass, slots, held)?;
+    let other = holder_of(alloc, pass, 1, None)?;
+    let (one, other) = at_once(rt, one, work, other, Work::PublishOften);
+    Some(gathered(pass, one, other))
 }
 
 // The one that is left takes the side away and installs another, and gives its slot up. Whether each call went right.
@@ -357,31 +365,41 @@ fn race_once<'h, R: Threads>(
 ) -> Option<bool>
     ensures { pass.new.heap ≡ pass.old.heap }
 {
-    let mut held = stored(pass, 7)?;
-    let copy = held.retain(pass)?;
+    let (word, word_too) = (round as u64 * 2, round as u64 * 2 + 1);
     // A thread takes its time to start, so the second owner waits longer and longer over a hundred rounds: each comes first in some.
-    let mut one = ready(alloc, pass, held, round as u64 * 2, 0)?;
-    let mut other = ready(alloc, pass, copy, round as u64 * 2 + 1, round % 100 * 400)?;
-    join_mut(rt, &mut || race(&mut one), &mut || race(&mut other));
-    judged(one, other, pass)
-}
-
-// Whether a race went right. What the racers have comes to the pass.
-fn judged<'h>(one: Racer<'h>, other: Racer<'h>, pass: &mut Pass<'h, NotEmpty>) -> Option<bool>
-    requires one { (one.held.heap ≡ pass.old.heap) × (one.pass.heap ≡ pass.old.heap) }
-    requires other { (other.held.heap ≡ pass.old.heap) × (other.pass.heap ≡ pass.old.heap) }
-    ensures { pass.new.heap ≡ pass.old.heap }
-{
-    let wanted = if one.won { one.offer } else { other.offer };
+    let pause = round % 100 * 400;
+    let (one, other) = shared_out(alloc, pass, 1)?;
+    let first = Work::Offer { word, pause: 0 };
+    let second = Work::Offer {
+        word: word_too,
+        pause,
+    };
+    let (one, other) = at_once(rt, one, first, other, second);
+    let wanted = if one.won { word } else { word_too };
     let right = one.won != other.won
         && one.found == wanted
         && other.found == wanted
         && one.slots_are_right
         && other.slots_are_right;
+    judged(one, other, pass, right)
+}
+
+// What the racers have comes to the pass. Whether the race went right, and the one left could replace the side.
+fn judged<'h>(
+    one: Holder<'h>,
+    other: Holder<'h>,
+    pass: &mut Pass<'h, NotEmpty>,
+    right: bool,
+) -> Option<bool>
+    requires passes { (one.pass.heap ≡ pass.old.heap) × (other.pass.heap ≡ pass.old.heap) }
+    requires one { IfSome one.held (λ r. (r.heap ≡ pass.old.heap) × (0 < length r.known)) }
+    requires other { IfSome other.held (λ r. (r.heap ≡ pass.old.heap) × (0 < length r.known)) }
+    ensures { pass.new.heap ≡ pass.old.heap }
+{
     pass.join(one.pass);
     pass.join(other.pass);
-    let shared = !other.held.release(pass);
-    let replaced = replaced(one.held, pass)?;
+    let shared = !other.held?.release(pass);
+    let replaced = replaced(one.held?, pass)?;
     Some(right && shared && replaced)
 }
 
@@ -398,7 +416,7 @@ fn races<'h, R: Threads>(rt: &R, alloc: Global, pass: &mut Pass<'h, NotEmpty>) -
     right
 }
 
-// What two owners do at once.
+// What two owners do to each other.
 #[derive(Clone, Copy, Debug)]
 enum Contest {
     Publish,
@@ -419,11 +437,11 @@ fn raced<'h, R: Threads>(
     ensures { IfSome result.1 (λ w. w.heap ≡ pass.entry.heap) }
 {
     let right = match contest {
-        Contest::Publish => both_publish(rt, alloc, &mut pass),
-        Contest::Write => write_beside(rt, alloc, &mut pass),
+        Contest::Publish => publish_beside(rt, alloc, &mut pass, false),
+        Contest::Write => publish_beside(rt, alloc, &mut pass, true),
         Contest::HandOver => hand_over_often(rt, alloc, &mut pass),
         Contest::Copy => both_copy(rt, alloc, &mut pass),
-        Contest::Release => both_let_go_often(rt, alloc, &mut pass),
+        Contest::Release => Some(both_let_go_often(rt, alloc, &mut pass)),
         Contest::Install => Some(races(rt, alloc, &mut pass)),
     };
     (right, ended(pass))
