@@ -144,7 +144,12 @@ fn index_at<L: Ledger>(
     ensures kept { text.new ≡ text.old }
 {
     match unit {
-        Encoding::Utf8 => calls::index_of_offset(text, ElementKind::Units(Encoding::Utf8), offset, steps),
+        Encoding::Utf8 => calls::index_of_offset(
+            text,
+            ElementKind::Units(Encoding::Utf8),
+            offset,
+            steps,
+        ),
         Encoding::Utf16 => utf16::index_of_offset(text, offset, steps),
     }
 }

@@ -89,7 +89,12 @@ fn floors<L: Ledger>(value: &mut Str, blank: Blank) -> [Option<u64>; 6]
     let second = place(utf16::index_of_offset(value, 1, &mut steps));
     let asked = Index::new(3, 0, Encoding::Utf8);
     let offset = utf16::offset_of_index(value, asked, &mut steps).ok();
-    let bytes = calls::offset_of_index(value, ElementKind::Units(Encoding::Utf8), asked, &mut steps).ok();
+    let bytes = calls::offset_of_index(
+        value,
+        ElementKind::Units(Encoding::Utf8),
+        asked,
+        &mut steps,
+    ).ok();
     match resolve(value, asked, &mut steps) {
         Ok(index) => {
             let scalar = scalar_floor(value, index, &mut steps).position();

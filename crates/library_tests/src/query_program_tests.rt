@@ -1,8 +1,8 @@
 //! What no clause says: that memory is found and that lines are answered as worked out by hand, however reads cut them.
 ghost use Rattle.std.specs.Prelude.{◌<◌};
 
-use query_program::run;
 use outside::{Failed, MemSink, MemSource, OpenGate, Sink};
+use query_program::run;
 use std::alloc::Global;
 use std::thread::Threads;
 use text_spec::{OutOfMemory, TextList};

@@ -1,9 +1,9 @@
 //! What no clause says: that steps find memory, and the replies to lines that were worked out by hand.
 ghost use Rattle.std.specs.Prelude.{◌≡◌, false, OnOk};
 
-use query_session::Session;
 use outside::OpenGate;
 use query_lines::{LineError, read_line, reply_text};
+use query_session::Session;
 use std::alloc::Global;
 use std::thread::Threads;
 use str_value::Pass;

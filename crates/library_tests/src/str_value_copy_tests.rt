@@ -2,12 +2,12 @@
 ghost use Rattle.std.specs.Prelude.{◌≡◌};
 
 use crate::str_value_tests::whole;
-use str_value::{MakeError, Pass, Str};
 use object_words::Form;
 use std::alloc::Global;
 use std::marker::Brand;
 use std::process::Abort;
 use std::sync::ledger::{Blank, Ledger};
+use str_value::{MakeError, Pass, Str};
 use text_spec::OutOfMemory;
 use word_units::{Steps, Text, boundary_at_or_before};
 

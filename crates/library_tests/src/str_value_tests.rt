@@ -4,12 +4,12 @@ ghost use Rattle.text_spec.specs.Packed.{content_words};
 ghost use Rattle.text_spec.specs.Views.{size_in};
 ghost use Rattle.str_value.specs.Meaning.{storage_of};
 
-use str_value::{MAX_TEXT_BYTES, MakeError, Pass, Str};
 use object_words::Form;
 use std::alloc::Global;
 use std::marker::Brand;
 use std::process::Abort;
 use std::sync::ledger::{Blank, Ledger};
+use str_value::{MAX_TEXT_BYTES, MakeError, Pass, Str};
 use text_spec::{Encoding, OutOfMemory};
 use word_units::{Steps, Text};
 

@@ -2,8 +2,8 @@
 ghost use Rattle.std.specs.Prelude.{◌≡◌};
 
 use crate::part::Part;
-use rounding::{resolve, scalar_floor, utf8_floor, utf16_floor};
 use index_words::Index;
+use rounding::{resolve, scalar_floor, utf8_floor, utf16_floor};
 use std::alloc::Global;
 use std::marker::Brand;
 use std::process::Abort;

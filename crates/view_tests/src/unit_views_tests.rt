@@ -1,13 +1,13 @@
 //! What no clause says: what the calls answer at texts written out by hand, over storage of either encoding.
 ghost use Rattle.std.specs.Prelude.{◌≡◌};
 
-use unit_views::{ElementKind, scalars, utf8};
 use index_words::Index;
 use std::alloc::Global;
 use std::marker::Brand;
 use std::process::Abort;
 use std::sync::ledger::{Blank, Ledger};
 use text_spec::{Encoding, OutOfMemory};
+use unit_views::{ElementKind, scalars, utf8};
 use word_units::{OutOfBounds, Steps, VecText};
 
 fn start_of(t: &VecText, view: ElementKind) -> Index {

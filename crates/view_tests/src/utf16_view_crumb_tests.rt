@@ -2,7 +2,6 @@
 //! words that takes.
 ghost use Rattle.std.specs.Prelude.{◌≡◌, ◌<◌};
 
-use utf16_view::utf16;
 use crumbs::StoredText;
 use index_words::Index;
 use std::alloc::Global;
@@ -10,6 +9,7 @@ use std::marker::Brand;
 use std::process::Abort;
 use std::sync::ledger::{Blank, Ledger};
 use text_spec::OutOfMemory;
+use utf16_view::utf16;
 use word_units::{OutOfBounds, Steps, Text, byte_word};
 
 /// The words of a stored text: a count word, and eight bytes to a word after it.

@@ -1,7 +1,6 @@
 //! What no clause says: what the calls answer at texts written out by hand, over storage of either encoding.
 ghost use Rattle.std.specs.Prelude.{◌≡◌};
 
-use utf16_view::utf16;
 use index_words::Index;
 use std::alloc::Global;
 use std::marker::Brand;
@@ -9,6 +8,7 @@ use std::process::Abort;
 use std::sync::ledger::{Blank, Ledger};
 use text_spec::{Encoding, OutOfMemory};
 use unit_views::{scalars, utf8};
+use utf16_view::utf16;
 use word_units::{OutOfBounds, Steps, VecText};
 
 /// A code unit, and the word of the index behind it.
