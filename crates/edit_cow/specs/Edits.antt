@@ -8,7 +8,7 @@ use Rattle.text_spec.specs.Text.{utf8}
 use Rattle.object_words.specs.declared.layout.TheConstants.{SMALL_CAPACITY}
 use Rattle.word_units.specs.Parts.{scalars_before}
 use Rattle.rounding.specs.Refusals.{scalar_of, out_of_range}
-use Rattle.str_value.specs.declared.value.TheConstants.{MAX_TEXT_BYTES}
+use Rattle.str_value.specs.declared.limits.TheConstants.{MAX_TEXT_BYTES}
 use Rattle.str_value.specs.declared.error.MakeError.{MakeError}
 use Rattle.str_value.specs.declared.error.MakeError.TheVariants as made
 use Rattle.str_value.specs.Meaning.{Meaning, own_part}

@@ -20,10 +20,13 @@ fn literals_stand_one_behind_the_other(rt: HostRuntime) -> Result<(), Fail> {
         0x2C65_9FC3_BCC3_7247,
         0x0000_0074_6C65_5720,
     ];
+    assert_eq!(rt; literals.len(), 3);
+    let longer = first_too_long(&literals, 13);
+    assert!(rt; longer.is_none(), "13 bytes");
     let rows = rows_after(alloc, 2, &literals)?;
     assert_eq!(rt; rows.words.as_slice(), words.as_slice());
     assert_eq!(rt; rows.starts.as_slice(), [2, 3, 5].as_slice());
-    let longest = [(7, Some(1)), (8, Some(2)), (12, Some(2)), (13, None)];
+    let longest = [(7, Some(1)), (8, Some(2)), (12, Some(2))];
     for (most, wanted) in longest {
         assert_eq!(rt; first_too_long(&literals, most), wanted, "{most} bytes");
     }

@@ -7,7 +7,7 @@ use Rattle.object_words.specs.Rows.{Row, small, owned, is_ascii, Describes}
 use Rattle.object_words.specs.declared.layout.TheConstants.{TOP_SHIFT, SMALL_COUNTS}
 use Rattle.str_value.specs.declared.storage.Storage.{Storage}
 use Rattle.str_value.specs.declared.storage.Storage.TheVariants.{Words, Bytes, Units}
-use Rattle.str_value.specs.declared.value.TheConstants.{MAX_TEXT_BYTES}
+use Rattle.str_value.specs.declared.limits.TheConstants.{MAX_TEXT_BYTES}
 
 -- how many bytes the words of a Small value hold
 abbrev pub small_count : ℕ × ℕ → ℕ

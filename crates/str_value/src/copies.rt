@@ -12,11 +12,12 @@ ghost use Rattle.str_value.specs.Meaning as meaning;
 ghost use Rattle.str_value.specs.Copies.{KeepsSame};
 
 use crate::error::MakeError;
+use crate::limits::MAX_TEXT_BYTES;
 use crate::pass::Pass;
 use crate::small::object_bytes;
 use crate::storage::{Storage, with_units};
 use crate::units::text_between;
-use crate::value::{MAX_TEXT_BYTES, Str, is_ascii, make, small};
+use crate::value::{Str, is_ascii, make, small};
 use object_words::{Object, SMALL_CAPACITY};
 use std::alloc::Global;
 use std::marker::PhantomData;

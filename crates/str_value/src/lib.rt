@@ -11,7 +11,9 @@
 
 mod copies;
 mod error;
+pub mod laws;
 mod lengths;
+mod limits;
 mod pass;
 mod replacing;
 mod small;
@@ -24,5 +26,6 @@ mod value;
 
 pub use error::MakeError;
 pub use lengths::Lengths;
+pub use limits::{CRUMB_STRIDE, MAX_TEXT_BYTES};
 pub use pass::Pass;
-pub use value::{MAX_TEXT_BYTES, Str};
+pub use value::Str;

@@ -13,11 +13,12 @@ ghost use Rattle.object_words.specs.Rows as rows;
 ghost use Rattle.str_value.specs.Meaning.{spliced, storage_of, utf8_row};
 
 use crate::error::MakeError;
+use crate::limits::MAX_TEXT_BYTES;
 use crate::pass::Pass;
 use crate::replacing::replace_between;
 use crate::small::object_bytes;
 use crate::storage::{Storage, with_units};
-use crate::value::{MAX_TEXT_BYTES, Str, is_ascii};
+use crate::value::{Str, is_ascii};
 use object_words::{Object, SMALL_CAPACITY};
 use std::alloc::Global;
 use std::sync::ledger::Ledger;

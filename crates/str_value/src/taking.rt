@@ -5,10 +5,11 @@ ghost use Rattle.object_words.specs.Rows.{Describes};
 ghost use Rattle.str_value.specs.Meaning.{utf8_row, utf16_row};
 
 use crate::copies::keep;
+use crate::limits::MAX_TEXT_BYTES;
 use crate::pass::Pass;
 use crate::storage::Storage;
 use crate::units::are_ascii;
-use crate::value::{MAX_TEXT_BYTES, Str};
+use crate::value::Str;
 use object_words::Object;
 use std::marker::PhantomData;
 

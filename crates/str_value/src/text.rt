@@ -4,6 +4,7 @@ ghost use Rattle.text_spec.specs.Packed.{content_words};
 ghost use Rattle.text_spec.specs.Views.{size_in};
 ghost use Rattle.str_value.specs.Meaning.{storage_of};
 
+use crate::limits::CRUMB_STRIDE;
 use crate::small::object_word;
 use crate::storage::Storage;
 use crate::value::Str;
@@ -16,6 +17,7 @@ impl<'h> Text for Str<'h> {
     ghost use Rattle.std.specs.Prelude.{false};
     ghost use Rattle.object_words.specs.Rows.{ascii_of};
     ghost use Rattle.str_value.specs.Meaning.{own_part};
+    ghost use Rattle.str_value.specs.declared.limits.TheConstants.{CRUMB_STRIDE};
 
     ghost part = { own_part };
 
@@ -25,10 +27,10 @@ impl<'h> Text for Str<'h> {
 
     ghost marked_ascii = { λ s. ascii_of s.row };
 
-    ghost STRIDE = { 64 };
+    ghost STRIDE = { CRUMB_STRIDE };
 
     fn stride(&self) -> usize {
-        64
+        CRUMB_STRIDE
     }
 
     fn encoding(&self) -> Encoding {

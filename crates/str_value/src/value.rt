@@ -11,6 +11,7 @@ ghost use Rattle.str_value.specs.Meaning as meaning;
 
 use crate::error::MakeError;
 use crate::lengths::{Lengths, lengths_of};
+use crate::limits::MAX_TEXT_BYTES;
 use crate::pass::Pass;
 use crate::small::object_bytes;
 use crate::storage::{Storage, with_units};
@@ -20,9 +21,6 @@ use object_words::{Form, Object, SMALL_CAPACITY};
 use std::alloc::Global;
 use std::marker::{Model, PhantomData};
 use text_spec::OutOfMemory;
-
-/// The greatest length of a text, in UTF-8 bytes: 16 MiB.
-pub const MAX_TEXT_BYTES: usize = 16_777_216;
 
 /// A text of Unicode scalars, of at most `MAX_TEXT_BYTES` in UTF-8.
 #[derive(Drop)]

@@ -8,6 +8,7 @@ use word_units::{Steps, Text};
 impl<'h> Text for Sub<'h> {
     ghost use Rattle.std.specs.Prelude.{false};
     ghost use Rattle.object_words.specs.Rows.{ascii_of};
+    ghost use Rattle.str_value.specs.declared.limits.TheConstants.{CRUMB_STRIDE};
     ghost use Rattle.substring.specs.Slice.{part_in};
 
     ghost part = { part_in };
@@ -18,7 +19,7 @@ impl<'h> Text for Sub<'h> {
 
     ghost marked_ascii = { λ sub. ascii_of sub.base.row };
 
-    ghost STRIDE = { 64 };
+    ghost STRIDE = { CRUMB_STRIDE };
 
     fn stride(&self) -> usize {
         self.base.stride()
