@@ -13,7 +13,7 @@ use std::process::Abort;
 use std::sync::ledger::{Blank, Ledger};
 use str_value::{MakeError, Pass, Str};
 use text_spec::Encoding;
-use unit_views::{View, calls, scalars, utf8};
+use unit_views::{ElementKind, calls, scalars, utf8};
 use utf16_view::utf16;
 use word_units::{
     OutOfBounds, Steps, Text, boundary_at_or_before, byte_at, fill_backward, fill_forward,
@@ -92,7 +92,12 @@ fn floors<L: Ledger>(sub: &mut Sub, blank: Blank) -> [Option<u64>; 6]
     let second = place(utf16::index_of_offset(sub, 1, &mut steps));
     let asked = Index::new(high.saturating_sub(1), 0, sub.encoding());
     let offset = utf16::offset_of_index(sub, asked, &mut steps).ok();
-    let bytes = calls::offset_of_index(sub, View::Units(Encoding::Utf8), asked, &mut steps).ok();
+    let bytes = calls::offset_of_index(
+        sub,
+        ElementKind::Units(Encoding::Utf8),
+        asked,
+        &mut steps,
+    ).ok();
     match resolve(sub, asked, &mut steps) {
         Ok(index) => {
             let scalar = scalar_floor(sub, index, &mut steps).position();
@@ -126,7 +131,7 @@ fn first_char<L: Ledger>(sub: &mut Sub, steps: &mut Steps<L>) -> (char, u32)
     scalar_at(sub, at, steps)
 }
 
-/// Where the scalar behind it begins.
+/// Where the scalar after it begins.
 fn second_place<L: Ledger>(sub: &mut Sub, steps: &mut Steps<L>) -> u64
     ensures { sub.new ≡ sub.old }
 {
