@@ -2,7 +2,8 @@
 pub mod Doing
 pub mod Beside
 -- what the calls of the heap do
-pub mod Steps
+pub mod Drawn
+pub mod GivingUp
 -- what own events say of the whole history
 pub mod Whole
 pub mod Counts

@@ -15,6 +15,7 @@ pub fn draw<'h, A: Attach>(pass: &mut Pass<'h, A>) -> Option<Draft<'h, A>>
     ensures same_heap { IfSome result (λ d. d.heap ≡ pass.new.heap) }
     ensures none { IsNone result ↔ (Shows pass.old → ⊥) }
     ensures kept { IfNone result (pass.new ≡ pass.old) }
+    ensures shows { IfSome result (λ _. Shows pass.old) }
     ensures drawn { IfSome result (λ d. IsDrawn pass.old pass.new d) }
     ensures empty { IfSome result (λ d. d.written ≡ []) }
 {

@@ -1,5 +1,7 @@
 //! What no clause says: that the calls succeed where the pass shows slots and credits, with answers worked out by hand.
-ghost use Rattle.std.specs.Prelude.{◌≡◌, ◌<◌, length, IfSome};
+ghost use Rattle.std.specs.Prelude.{◌≡◌, ℕ, ◌<◌, [], ◌∷◌, length, Option, true, IfSome};
+ghost use Rattle.slot_model.specs.declared.event.Event.TheVariants.{Publish};
+ghost use Rattle.slot_accounts.specs.Account.{giving_up};
 
 use crate::{ask_sole, attach, detach, draw, let_go, look, publish, share};
 use slot_model::{Attach, Layout};
@@ -68,6 +70,27 @@ fn each_call(mut pass: Pass<'_, NotEmpty>) -> Option<(Answers, Whole<NotEmpty>)>
     Some((answers, whole))
 }
 
+// One slot is published and given up. The history is what the two calls did.
+fn one_slot(mut pass: Pass<'_, NotEmpty>) -> Option<Whole<NotEmpty>>
+    requires fresh { (pass.front ≡ []) × (pass.places ≡ []) }
+    ensures heap { IfSome result (λ w. w.heap ≡ pass.entry.heap) }
+    ensures history { IfSome result (λ w. (x : ℕ) × (found : Option ℕ) × (w.front ≡ Publish x (7 ∷ []) ∷ giving_up x true found)) }
+{
+    if pass.capacity_words() == 0 {
+        return None;
+    }
+    let mut draft = draw(&mut pass)?;
+    draft.write(7);
+    let reference = publish(&mut pass, draft);
+    if !let_go(&mut pass, reference) {
+        return None;
+    }
+    match pass.end() {
+        Ok(whole) => Some(whole),
+        Err(_missing) => None,
+    }
+}
+
 #[test]
 fn each_call_answers_as_the_heap_is(rt: HostRuntime) -> Result<(), Fail> {
     let alloc = rt.alloc();
@@ -96,5 +119,9 @@ fn each_call_answers_as_the_heap_is(rt: HostRuntime) -> Result<(), Fail> {
         (2, 2),
         "slots and idle slots"
     );
+    let Ok((heap, whole)) = Heap::open(alloc, &layout, &TextList::new(alloc)) else {
+        panic!(rt; "no heap")
+    };
+    assert!(rt; one_slot(heap.pass(whole)).is_some(), "a call was refused");
     Ok(())
 }

@@ -1,42 +1,17 @@
--- What the calls of the heap do, put into one account.
-use Rattle.std.proofs.Common.{◌≡◌, ℕ, ◌+◌, ◌≤◌, Bool, true, false, List, [], ◌∷◌, ◌++◌, length, Option, Some, None, refl, sym, ap, ◌∙◌, subst, arith, append-nil, length-append}
+-- What gives a reference up, put into one account: a Release, and after the last one a Detach.
+use Rattle.std.proofs.Common.{◌≡◌, ℕ, ◌+◌, Bool, true, false, List, [], ◌∷◌, ◌++◌, length, Option, Some, None, refl, sym, ap, ◌∙◌, subst, arith, append-nil, length-append}
 use mathlib.Core.List.{IsPrefix}
 use Rattle.slot_model.specs.declared.event.Event.{Event}
 use Rattle.slot_model.specs.declared.event.Event.TheVariants.{Release, Detach}
-use Rattle.slot_table.specs.Owners.{PassSeen, DraftSeen, RefSeen, with_side, Released, Drafted, Met}
-use Rattle.slot_accounts.specs.Account.{IsAt, Shows, gives, Did, Keeps, IsDrawn, giving_up}
+use Rattle.slot_table.specs.Owners.{PassSeen, RefSeen, with_side, Released, Met}
+use Rattle.slot_accounts.specs.Account.{IsAt, gives, Did, Keeps, giving_up}
 use Rattle.slot_accounts.proofs.Doing.{prefix_trans, prefix_length, is_at-below, is_at-grows, Did-one}
 
 -- a place that comes behind no other of the reference's
 alone : (ms : List ℕ) (n : ℕ) (ns : List ℕ) → ms ≡ [] → ns ≡ ms ++ n ∷ [] → ns ≡ n ∷ []
 alone ms n ns none is = is ∙ ap (λ l. l ++ n ∷ []) none
 
--- ---- a draft that was cut from the pass p, which is q since
-module _ (p q : PassSeen) (d : DraftSeen) (drawn : IsDrawn p q d) where
-  cut : Drafted p q drawn.cut
-  cut = drawn.drafted
-
-  drawn-slots : length p.free ≡ length q.free + 1
-  drawn-slots = ap length cut.free_are ∙ length-append q.free (drawn.cut.slot ∷ [])
-
-  -- more words are written into it
-  pub Drawn-written : (e : DraftSeen) (ws : List ℕ) → e ≡ record d { written = ws } → IsDrawn p q e
-  Drawn-written e ws written = record {
-    cut = drawn.cut;
-    drafted = drawn.drafted;
-    filled =
-        let same : e.written ≡ ws = ap (λ (x : DraftSeen). x.written) written in
-        written ∙ ap (λ (x : DraftSeen). record x { written = ws }) drawn.filled ∙ ap (λ (vs : List ℕ). record drawn.cut { written = vs }) (sym same);
-  }
-
--- a pass that gave a draft showed a free slot and a credit
-pub Drawn-shows : (p q : PassSeen) (d : DraftSeen) → IsDrawn p q d → 1 ≤ q.credits → Shows p
-Drawn-shows p q d drawn stake = record {
-  a_slot = let e = drawn-slots p q d drawn in omega (arith, e);
-  a_credit = let c = drawn.drafted.credits_are in omega (arith, c, stake);
-}
-
--- ---- a reference meets the pass, and is given up to it
+-- ---- the reference meets the pass, and is given up to it
 module _ (fits : List ℕ → List ℕ → Type 0) (p : PassSeen) (r : RefSeen) (q : PassSeen) (s : RefSeen) (t : PassSeen)
     (clean : r.places ≡ []) (met : Met p r q s) where
   same_slot : s.slot ≡ r.slot
