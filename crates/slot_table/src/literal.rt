@@ -1,7 +1,7 @@
 //! One of the heap's literals, as a thread reads it.
 ghost use Rattle.std.specs.Prelude.{◌≡◌, ◌<◌, ◌≤◌, [], get_or, length, IsUtf8};
 ghost use Rattle.literal_rows.specs.Rows.{row_words};
-ghost use Rattle.slot_table.specs.Opening.{most_bytes};
+ghost use Rattle.slot_table.specs.Opening.{LayoutOk, most_bytes};
 
 use crate::heap::Heap;
 use crate::pass::Pass;
@@ -43,6 +43,7 @@ impl<'h, A: Attach> Pass<'h, A> {
         ensures literal { result ≡ record { heap = self.old.heap; front = self.old.front; words = row_words self.old.heap.literals number } }
         ensures text { IsUtf8 (get_or self.old.heap.literals number []) }
         ensures fits { length (get_or self.old.heap.literals number []) ≤ most_bytes self.old.heap.layout }
+        ensures laid { LayoutOk self.old.heap.layout }
     {
         let heap = self.heap;
         let start = heap.starts[number as usize];
