@@ -84,6 +84,13 @@ pub record Made (es : List Event) (p q : PassSeen) : Type 0 where
   pub stand : Scattered q.front (length p.front) new_places es
   pub slots_are : length q.free + sum_of takes es ≡ length p.free + sum_of gives es
 
+-- the reference s made these events of its own, in this order, and is t since: it may make them between two meetings with a pass
+pub record Strung (es : List Event) (s t : RefSeen) : Type 0 where
+  pub grown : IsPrefix s.front t.front
+  pub new_places : List ℕ
+  pub places_are : t.places ≡ s.places ++ new_places
+  pub stand : Stand t.front (length s.front) new_places es
+
 -- the credits that the pass shows, and the c and d that the call's values hold before and after, keep their sum
 abbrev pub Keeps : PassSeen → ℕ → PassSeen → ℕ → Type 0
 Keeps p c q d = q.credits + d ≡ p.credits + c

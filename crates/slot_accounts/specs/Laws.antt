@@ -1,11 +1,11 @@
 -- What accounts say together: how two calls compose, and what the own events say of the whole history. Read by callers.
-use Rattle.std.specs.Prelude.{◌≡◌, ℕ, ◌+◌, ◌*◌, ◌≤◌, List, [], ◌++◌, length, drop}
+use Rattle.std.specs.Prelude.{◌≡◌, ℕ, ◌+◌, ◌*◌, ◌≤◌, List, [], ◌∷◌, ◌++◌, length, drop}
 use Rattle.slot_model.specs.declared.event.Event.{Event}
 use Rattle.slot_model.specs.declared.layout.Layout.{Layout}
 use Rattle.slot_model.specs.History.{Legal}
 use Rattle.slot_table.specs.Numbers.{times, Below}
-use Rattle.slot_table.specs.Owners.{PassSeen, Divided, Joined}
-use Rattle.slot_accounts.specs.Account.{Did, Made, takes, gives, sum_of}
+use Rattle.slot_table.specs.Owners.{PassSeen, RefSeen, Adds, Divided, Joined, Met}
+use Rattle.slot_accounts.specs.Account.{Did, Made, Strung, takes, gives, sum_of}
 use Rattle.slot_accounts.specs.Counts.{IsComplete, Follows, published, publishes}
 
 -- what one call did and then another did is what both did
@@ -18,6 +18,16 @@ MadeThen = (es ds : List Event) (p q r : PassSeen) → Made es p q → Made ds q
 -- what was done in order was made
 abbrev pub DidIsMade : Type 0
 DidIsMade = (es : List Event) (p q : PassSeen) → Did es p q → Made es p q
+
+-- a reference that makes some events of its own and then others made both
+abbrev pub StrungThen : Type 0
+StrungThen = (es ds : List Event) (r s t : RefSeen) → Strung es r s → Strung ds s t → Strung (es ++ ds) r t
+
+-- A reference without places meets a pass, makes events of its own, and meets the pass again. Where they take no slot and give none,
+-- they are what the pass did
+abbrev pub EventsBetween : Type 0
+EventsBetween = (es : List Event) (p : PassSeen) (r : RefSeen) (q : PassSeen) (s t : RefSeen) (end : PassSeen) (u : RefSeen) → r.places ≡ []
+    → Met p r q s → Strung es s t → sum_of takes es ≡ 0 → sum_of gives es ≡ 0 → Met q t end u → Did es p end
 
 -- a share is cut off a pass, both go on beside each other, and they are joined: the events of both were made
 abbrev pub MadeBeside : Type 0
@@ -53,6 +63,10 @@ CompleteBefore = (es ds : List Event) (start p q : PassSeen) → start.places �
     → IsComplete q → IsComplete p
 
 module _ (fits : List ℕ → List ℕ → Type 0) where
+  -- an event that a reference adds to the history is one of its own
+  abbrev pub StrungOne : Type 0
+  StrungOne = (k : Layout) (e : Event) (s t : RefSeen) → Adds fits k s.front s.places e t.front t.places → Strung (e ∷ []) s t
+
   -- in a legal history the slots that are taken are those given back, and at most two for each Publish
   abbrev pub TwoSlotsAPublish : Type 0
   TwoSlotsAPublish = (k : Layout) (es : List Event) → Legal fits k es → sum_of takes es ≤ sum_of gives es + 2 * sum_of publishes es

@@ -1,5 +1,5 @@
 //! What accounts say together. Each law is the contract of a function with an empty body.
-ghost use Rattle.slot_accounts.specs.Laws.{DidThen, MadeThen, DidIsMade, MadeBeside, NewPlaces, NoOtherPlaces, WholeHistory, Counted, PublishedInOrder, CompleteBefore, TwoSlotsAPublish, SlotsLeft};
+ghost use Rattle.slot_accounts.specs.Laws.{DidThen, MadeThen, DidIsMade, MadeBeside, StrungOne, StrungThen, EventsBetween, NewPlaces, NoOtherPlaces, WholeHistory, Counted, PublishedInOrder, CompleteBefore, TwoSlotsAPublish, SlotsLeft};
 
 use slot_model::Attach;
 
@@ -8,6 +8,14 @@ pub fn calls_compose()
     ensures did { DidThen }
     ensures made { MadeThen }
     ensures did_is_made { DidIsMade }
+{}
+
+/// What a reference makes of its own between two meetings with a pass is what the pass did, as the words that it writes.
+/// Callers cite `Strung-one`, `Strung-then`, `Did-strung`.
+pub fn events_between_meetings_are_the_passes<A: Attach>()
+    ensures one { StrungOne A.fits }
+    ensures then { StrungThen }
+    ensures did { EventsBetween }
 {}
 
 /// Two owners of one pass's shares made what each of them made. Callers cite `beside`.
