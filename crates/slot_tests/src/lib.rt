@@ -1,4 +1,5 @@
-//! Owners of one heap at work, alone and in threads: what no clause of `slot_table` says of its calls together.
+//! Owners of one heap at work, alone and in threads: what no clause of `slot_table` says of its calls together; and texts in
+//! its slots, edited by `slot_edits`.
 //!
 //! The crate has tests alone. They stand here since a crate with tests is proved twice, and `slot_table` takes long to prove.
 #![tactic(auto)]
@@ -13,3 +14,5 @@ mod literals;
 mod opening;
 #[cfg(test)]
 mod racing;
+#[cfg(test)]
+mod text_edits;
