@@ -1,7 +1,7 @@
 -- The pieces before and behind a part, where all that is left of the text is short.
 use Rattle.std.proofs.Common.{◌≡◌, refl, sym, ap, subst, ◌∙◌, ℕ, ◌+◌, ◌-◌, ◌<◌, ◌≤◌, ⊎_elim, List, ◌++◌, length, take, drop, slice_index, length-append, arith}
 use Rattle.std.proofs.lemmas.Bool.{cases_lt}
-use Rattle.std.proofs.lemmas.List.{take_all, take-take, take-append-le, take-append-drop, length-take-le, length-drop}
+use Rattle.std.proofs.lemmas.List.{take_at, take_all, take-take, take-append-le, take-append-drop, length-take-le, length-drop}
 use Rattle.std.proofs.lemmas.Str.{encodes-append}
 use Rattle.std.specs.Char.{len_utf8}
 use Rattle.text_spec.specs.declared.encoding.Encoding.{Encoding}
@@ -11,14 +11,15 @@ use Rattle.text_spec.specs.Text.{utf8}
 use Rattle.text_spec.specs.Views.{width_in, part}
 use Rattle.text_spec.proofs.Bytes.{length-utf8}
 use Rattle.text_spec.proofs.Downward.{down-length}
-use Rattle.text_spec.proofs.Walk.{start-zero, start-strict, start-le, down-start}
+use Rattle.text_spec.proofs.Walk.{start-zero, start-strict, start-le, start-mono, down-start}
 use Rattle.text_spec.proofs.Widths.{width_some, width_most}
 use Rattle.word_units.specs.Filling.{IsPiece}
 use Rattle.word_units.specs.Parts.{all_of}
 use Rattle.std.specs.List.{splice}
-use Rattle.str_value.specs.Meaning.{Meaning, storage_of, own_part}
+use Rattle.str_value.specs.Meaning.{Meaning, storage_of, own_part, text_between}
 use Rattle.text_spec.proofs.Replacing.{back8}
-use Rattle.str_value.proofs.Spliced.{length-splice, number}
+use Rattle.str_value.proofs.Between.{down-mono}
+use Rattle.str_value.proofs.Spliced.{length-splice, number, part8}
 
 -- `size` bytes of the buffer are the scalars from `from` to `to`, and no more had room in 64 bytes
 module _ (e : Encoding) (t : List ℕ) (from to size : ℕ) (buf : List ℕ) (piece : IsPiece (all_of e t) from to (take size buf)) (room : size ≤ length buf)
@@ -65,6 +66,23 @@ module _ (e : Encoding) (t : List ℕ) (from to size : ℕ) (buf : List ℕ) (pi
       piece.bytes ∙ ap utf8 (take_all (last - j) (drop j t) (omega (arith, length-drop j t, all)))
       ∙ sym (back8 t j) ∙ ap (λ k. drop k (utf8 t)) (sym is)
 
+  -- a short part that begins where the piece does is a front of it
+  pub piece-part : (high n : ℕ) → from ≤ high → n ≡ length (utf8 (part t (down (width_in e) t from) (down (width_in e) t high))) → n ≤ 15
+      → take n buf ≡ utf8 (part t (down (width_in e) t from) (down (width_in e) t high))
+  unfolding last
+  piece-part high n order is few =
+      let i = down (width_in e) t from in
+      let j = down (width_in e) t high in
+      let ends = part8 t i j (down-mono (width_in e) t from high order) in
+      let reaches : j ≤ last =
+      ⊎_elim (λ l. absurd (omega (arith, stops (omega (arith, l, down-length (width_in e) t high)), sized, start-mono len_utf8 t last j (omega (arith, l)), ends, is, few))) (λ l. l) (cases_lt last j) in
+      let shown = part t i j in
+      let behind = drop (j - i) (part t i last) in
+      let cut : part t i last ≡ shown ++ behind =
+      sym (take-append-drop (j - i) (part t i last)) ∙ ap (λ x. x ++ behind) (take-take (j - i) (last - i) (drop i t) (omega (arith, reaches))) in
+      let inside : n ≤ size = omega (arith, sized, ends, is, start-mono len_utf8 t j last reaches) in
+      sym (take-take n size buf inside) ∙ ap (take n) (piece.bytes ∙ ap utf8 cut ∙ encodes-append shown behind) ∙ take_at (utf8 shown) (utf8 behind) n (sym is)
+
 -- both pieces with a text between them
 module _ (now seen : Meaning) (same : seen ≡ now) (high l h : ℕ) (with : List ℕ) (is : h ≡ start len_utf8 (now.text) (number now high))
     (order : l ≤ h) (inside : h ≤ length (utf8 (now.text))) (few : length (splice (utf8 (now.text)) l h with) ≤ 15)
@@ -89,3 +107,12 @@ module _ (now seen : Meaning) (same : seen ≡ now) (high l h : ℕ) (with : Lis
   pub pieces-few : length (take l buf) + length with + length (take size-2 buf-2) ≤ 15
   pieces-few =
       omega (arith, ap length pieces-joined, few, length-append (take l buf) (with ++ take size-2 buf-2), length-append with (take size-2 buf-2))
+
+-- a short part of a value's text, read from where it begins
+pub part-of_piece : (now seen : Meaning) → seen ≡ now → (low high n to size : ℕ) (buf : List ℕ) → IsPiece (own_part seen) low to (take size buf) → size ≤ length buf
+    → (to < start (width_in (storage_of (seen.row))) (seen.text) (length (seen.text)) → 64 < size + len_utf8 (slice_index (seen.text) (number seen to)))
+    → low ≤ high → n ≡ length (utf8 (text_between now low high)) → n ≤ 15 → take n buf ≡ utf8 (text_between now low high)
+part-of_piece now seen same low high n to size buf piece room most order is few =
+    piece-part (storage_of (now.row)) (now.text) low to size buf (subst (λ m. IsPiece (own_part m) low to (take size buf)) same piece) room
+    (subst (λ m. to < start (width_in (storage_of (m.row))) (m.text) (length (m.text)) → 64 < size + len_utf8 (slice_index (m.text) (number m to))) same most)
+    high n order is few

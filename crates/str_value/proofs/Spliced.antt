@@ -1,37 +1,41 @@
 -- A text with a part replaced, its UTF-8, and its mark of ASCII.
-use Rattle.std.proofs.Common.{◌≡◌, refl, sym, ap, subst, ◌∙◌, ℕ, zero, suc, ◌+◌, ◌-◌, ◌^◌, ◌<◌, ◌≤◌, ⊎_elim, Vec, Global, List, [], ◌∷◌, ◌++◌, length, take, drop, get_or, slice_index, slice_range, length-append, Bool, true, false, ◌&&◌, IsUtf8, chars, nat_lt, if◌then◌else◌, Result, Ok, Err, OnErr, ◌↔◌, arith}
+use Rattle.std.proofs.Common.{◌≡◌, refl, sym, ap, subst, ◌∙◌, ℕ, suc, ◌+◌, ◌-◌, ◌^◌, ◌<◌, ◌≤◌, Vec, Global, List, [], ◌∷◌, ◌++◌, length, take, drop, get_or, slice_index, slice_range, length-append, Some, Bool, true, false, ◌&&◌, IsUtf8, chars, nat_lt, Result, Ok, Err, OnErr, ◌↔◌, arith}
 use Rattle.str_value.specs.declared.error.MakeError.{MakeError}
 use Rattle.str_value.specs.declared.error.MakeError.TheVariants.{TooLong}
 use Rattle.text_spec.specs.declared.out_of_memory.OutOfMemory.{OutOfMemory}
 use Rattle.std.proofs.Math.Bool.{true-and, and-true, and-false, and_assoc}
-use Rattle.std.proofs.lemmas.Bool.{and_parts, cases_lt, lt-leb, le-leb}
-use Rattle.std.proofs.lemmas.List.{get_or_past, take_all, take-append-drop, length-take-le, length-drop, drop-drop}
+use Rattle.std.proofs.lemmas.Bool.{and_parts}
+use Rattle.std.proofs.lemmas.List.{take_all, take-append-drop, length-take-le, length-drop, drop-drop}
 use Rattle.std.proofs.lemmas.Str.{encodes-append, encodes-chars, chars-encodes, scalars-chars}
-use Rattle.std.specs.Char.{encode_utf8, len_utf8, IsScalar}
+use Rattle.std.specs.Char.{len_utf8, IsScalar}
 use Rattle.std.specs.List.{splice}
 use Rattle.std.specs.Str.{all_scalars}
 use Rattle.text_spec.specs.Editing.{replaced}
 use Rattle.text_spec.specs.Offsets.{start, down}
 use Rattle.text_spec.specs.Text.{utf8, repair}
 use Rattle.text_spec.specs.Views.{width_in, size_in, part}
-use Rattle.text_spec.proofs.Bytes.{length-utf8, decoded}
+use Rattle.text_spec.proofs.Bytes.{length-utf8}
 use Rattle.text_spec.proofs.Denoting.{denoted_size}
 use Rattle.text_spec.proofs.Downward.{down-length}
 use Rattle.text_spec.proofs.Walk.{start-zero, down-start, down-end}
 use Rattle.text_spec.proofs.Widths.{width_some}
-use Rattle.std.proofs.Math.ListN.{get_or-append}
-use Rattle.std.proofs.Math.Seq.{take-add, get_or-append_right}
+use Rattle.std.proofs.Math.Seq.{take-add}
 use Rattle.text_spec.proofs.Lengths.{start-utf8}
 use Rattle.text_spec.proofs.Replacing.{utf8-replaced}
 use Rattle.text_spec.proofs.Repaired.{read16}
 use Rattle.text_spec.proofs.Units.{scalar16}
-use Rattle.object_words.specs.Rows.{Row, small, owned, is_ascii, count_of, Describes}
-use Rattle.str_value.specs.Meaning.{Meaning, storage_of, text_between, spliced, utf8_row}
+use Rattle.object_words.specs.Rows.{Row, owned, is_ascii, count_of, Describes}
+use Rattle.str_value.specs.Meaning.{Meaning, storage_of, text_between, spliced}
 use Rattle.str_value.specs.declared.storage.Storage.{Storage}
-use Rattle.str_value.specs.declared.storage.Storage.TheVariants.{Words, Bytes, Units}
-use Rattle.str_value.specs.Stored.{held, text_of, IsStored}
-use Rattle.str_value.proofs.Kept.{meaning_of, row-kept, denotes-kept, bytes-stored}
-use Rattle.str_value.proofs.Parts.{scalars-take, scalars-drop, both-true, down-mono}
+use Rattle.str_value.specs.declared.storage.Storage.TheVariants.{Bytes}
+use Rattle.str_value.specs.Stored.{meaning_of, IsStored}
+use Rattle.str_value.proofs.Kept.{row-kept, denotes-kept, bytes-stored}
+use Rattle.text_spec.specs.Packed.{units_of, denoted_text}
+use Rattle.text_spec.specs.declared.encoding.Encoding.{Encoding}
+use Rattle.text_spec.specs.declared.encoding.Encoding.TheVariants.{Utf8, Utf16}
+use Rattle.text_spec.proofs.Denoting.{utf16_words}
+use Rattle.text_spec.proofs.Listed.{utf8-bytes}
+use Rattle.str_value.proofs.Between.{held-bytes, scalars-take, scalars-drop, both-true, down-mono}
 
 -- ---- the scalars of a value's text
 each-scalar : (t : List ℕ) → ((k : ℕ) → k < length t → IsScalar (get_or t k 0)) → all_scalars t ≡ true
@@ -41,14 +45,13 @@ each-scalar (c ∷ t) h = both-true _ _ (h 0 (omega arith)) (each-scalar t (λ k
 repair-scalars : (us : List ℕ) → ((i : ℕ) → slice_index us i < 2 ^ 16) → all_scalars (repair us) ≡ true
 repair-scalars us fits = each-scalar (repair us) (λ k l. scalar16 us fits _ _ (read16 us fits k l))
 
-stored-scalars : (object : ℕ × ℕ) (storage : Storage) → IsStored object storage → all_scalars (text_of object storage) ≡ true
-stored-scalars object Words is = scalars-chars (held object Words) is.kept
-stored-scalars object (Bytes v) is = scalars-chars v.items is.kept.0
-stored-scalars object (Units v) is = repair-scalars v.items is.kept
+scalars-denoted : (e : Encoding) (ws : List ℕ) (n : ℕ) (t : List ℕ) → denoted_text e ws n ≡ Some t → all_scalars t ≡ true
+scalars-denoted Utf8 ws n t is = (held-bytes ws n t is).1
+scalars-denoted Utf16 ws n t is = let w = utf16_words ws n t is in subst (λ u. all_scalars u ≡ true) w.text (repair-scalars (units_of ws n) w.fits)
 
 pub scalars-kept : (object : ℕ × ℕ) (storage : Storage) (now : Meaning) → IsStored object storage → meaning_of object storage ≡ now
     → all_scalars (now.text) ≡ true
-scalars-kept object storage now is e = ap (λ m. all_scalars (m.text)) (sym e) ∙ stored-scalars object storage is
+scalars-kept object storage now is e = scalars-denoted _ _ _ _ (denotes-kept object storage now is e)
 
 -- ---- the UTF-8 of a text with another one in place of a part
 scalars-append : (s t : List ℕ) → all_scalars s ≡ true → all_scalars t ≡ true → all_scalars (s ++ t) ≡ true
@@ -164,44 +167,10 @@ whole8 now end is =
     ap (λ i. utf8 (part t i (down w t end))) zero-is ∙ ap (λ j. utf8 (part t 0 j)) end-is ∙ ap utf8 (take_all (length t - 0) t (omega arith))
 
 -- ---- a value in a vector of its own
-byte-fits : (c : ℕ) → IsScalar c → (i : ℕ) → get_or (encode_utf8 c) i 0 < 256
-byte-fits c ok zero = let d = decoded c ok in omega (arith, d.byte)
-byte-fits c ok (suc i) =
-    let d = decoded c ok in
-    ⊎_elim (λ l. omega (arith, d.rest (suc i) (omega arith) l)) (λ l. omega (arith, get_or_past (encode_utf8 c) (suc i) 0 l)) (cases_lt (suc i) (length (encode_utf8 c)))
-
-text-fits : (t : List ℕ) → all_scalars t ≡ true → (i : ℕ) → get_or (utf8 t) i 0 < 256
-text-fits [] ok i = omega arith
-text-fits (c ∷ t) ok i =
-    let parts = and_parts _ _ ok in
-    ⊎_elim (λ l. omega (arith, get_or-append (encode_utf8 c) (utf8 t) 0 i l, byte-fits c parts.0 i))
-    (λ l. omega (arith, get_or-append_right (encode_utf8 c) (utf8 t) i 0 l, text-fits t parts.1 (i - length (encode_utf8 c))))
-    (cases_lt i (length (encode_utf8 c)))
-
-utf8-fits : (bytes : List ℕ) → IsUtf8 bytes → (i : ℕ) → slice_index bytes i < 2 ^ 8
-utf8-fits bytes ok i = subst (λ bs. get_or bs i 0 < 256) ok.1.1 (text-fits ok.0 ok.1.0 i)
-
 pub own-stored : (object : ℕ × ℕ) (v : Vec ℕ Global) (bytes : List ℕ) (ascii : Bool) (n : ℕ) → Describes (owned false ascii ascii n) object
     → ascii ≡ is_ascii bytes → n ≡ length v.items → v.items ≡ bytes → IsUtf8 bytes → length bytes ≤ 16777216 → IsStored object (Bytes v)
 own-stored object v bytes ascii n d marked count same ok limit =
-    bytes-stored object v bytes ascii (subst (λ k. Describes (owned false ascii ascii k) object) (count ∙ ap length same) d) marked same ok (utf8-fits bytes ok) limit
-
--- the row of more bytes than the two words hold
-pub owned-row : (bytes : List ℕ) → 15 < length bytes → owned false (is_ascii bytes) (is_ascii bytes) (length bytes) ≡ utf8_row bytes
-owned-row bytes long =
-    sym (ap (λ few. if few then small bytes else owned false (is_ascii bytes) (is_ascii bytes) (length bytes)) (lt-leb (length bytes) 15 long))
-
-pub small-row : (bytes : List ℕ) → length bytes ≤ 15 → small bytes ≡ utf8_row bytes
-small-row bytes few =
-    sym (ap (λ is_few. if is_few then small bytes else owned false (is_ascii bytes) (is_ascii bytes) (length bytes)) (le-leb (length bytes) 15 few))
-
--- a Small value has few bytes
-pub words-few : (object : ℕ × ℕ) (storage : Storage) (now : Meaning) → IsStored object storage → meaning_of object storage ≡ now → storage ≡ Words
-    → length (utf8 (now.text)) ≤ 15
-words-few object storage now is e s =
-    let kept : IsStored object Words = subst (IsStored object) s is in
-    let seen : meaning_of object Words ≡ now = ap (meaning_of object) (sym s) ∙ e in
-    omega (arith, ap (λ m. length (utf8 (m.text))) seen, ap length (encodes-chars (held object Words) kept.kept), kept.describes.is_row.0)
+    bytes-stored object v bytes ascii (subst (λ k. Describes (owned false ascii ascii k) object) (count ∙ ap length same) d) marked same ok (utf8-bytes bytes ok) limit
 
 pub on_err : (r : Result (Unit {0}) OutOfMemory) (P : Type 0) → P → OnErr r P
 on_err (Ok u) P p = tt

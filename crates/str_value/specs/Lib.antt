@@ -1,5 +1,8 @@
 pub mod Meaning
 pub mod Stored
-pub mod Room
+pub mod Making
+pub mod Copying
+pub mod Learning
+pub mod Tied
 pub mod Leading
-pub mod Copies
+pub mod Editing

@@ -1,10 +1,19 @@
-//! The value: a text of Unicode scalars that names denote, made from UTF-8 bytes or UTF-16 units and given back to its pass.
+//! The value: a text of Unicode scalars that names denote, in the forms that Swift's native strings have.
 //!
-//! A `Str` is seen by contracts as its text, a list of scalars, and as the row of its two words and its content words. A text made
-//! from UTF-8 (the Unicode Standard, section 3.9) of at most 15 bytes is Small and stands in the words of its `Object`; a longer
-//! one is Owned, with its bytes in a vector, and one made from UTF-16 is Owned with its units, surrogates without their other half
-//! among them. A `Str` is a `Text`, read word by word. No shared storage is built yet, so a `Pass` shows no free slot, no credit
-//! and no literal. The lifetime `'h` is that of the heap that values will be stored in.
+//! A `Str` is two words, an `Object`, and where its code units stand:
+//!
+//! | form | where | made by |
+//! |---|---|---|
+//! | Small | in the two words, at most 15 bytes | UTF-8 |
+//! | Native | in a slot of the heap, UTF-8 | longer UTF-8, where the pass shows a slot and a credit |
+//! | Foreign | in a slot of the heap, UTF-16 with surrogates without their other half | UTF-16, where the pass shows them |
+//! | Literal | in a literal of the heap, UTF-8 | `Str::literal` |
+//! | Owned | in a vector of its own, UTF-8 or UTF-16 | anything else |
+//!
+//! A value in a slot holds one reference and one credit, and no places: all calls on it are made through the pass, which has the place of
+//! each event. Each call's contract lists its events (`Did` of `slot_accounts`) and what became of credits and slots. Copies share a
+//! slot, and a text learns its breadcrumbs, one at each 64th UTF-16 unit. A `Str` is a `Text`, read word by word. Contracts see it as its
+//! scalars, the row of its two words, its content words and its place. The lifetime `'h` is that of the heap.
 //!
 //! Meaning: `specs/Meaning.antt`. Start at `value.rt`.
 #![tactic(auto)]
@@ -12,9 +21,13 @@
 mod copies;
 mod error;
 pub mod laws;
+mod learning;
 mod lengths;
 mod limits;
-mod pass;
+mod literal_values;
+mod making_utf16;
+mod making_utf8;
+mod parts;
 mod replacing;
 mod small;
 mod splicing;
@@ -25,7 +38,8 @@ mod units;
 mod value;
 
 pub use error::MakeError;
+pub use learning::Learned;
 pub use lengths::Lengths;
 pub use limits::{CRUMB_STRIDE, MAX_TEXT_BYTES};
-pub use pass::Pass;
+pub use storage::{StrCrumbs, StrPass};
 pub use value::Str;

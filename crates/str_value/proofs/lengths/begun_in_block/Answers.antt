@@ -1,6 +1,6 @@
 use Rattle.std.proofs.Common.{arith}
 use Rattle.std.proofs.lemmas.List.Sums.{count_by-le-length}
-use Rattle.str_value.specs.Leading.{starts_scalar, starts_pair}
+use Rattle.str_value.specs.Leading.{starts_scalar}
 use Rattle.str_value.proofs.Begun.{begun-scalars, begun-pairs}
 use Rattle.str_value.proofs.lengths.begun_in_block.Goals as goal
 

@@ -1,13 +1,9 @@
-use Rattle.std.proofs.Common.{◌∙◌}
-use Rattle.str_value.proofs.Copied.{same-meaning, same-stored, not-small, on-err}
+use Rattle.std.proofs.Common.{ap}
+use Rattle.str_value.specs.Meaning.{Meaning}
+use Rattle.str_value.proofs.Copied.{apart-did}
 use Rattle.str_value.proofs.value.Str.copy.Goals as goal
 
-pub returns-in_err-storage-clause-small_is_free : goal.returns-in_err-storage-clause-small_is_free
-returns-in_err-storage-clause-small_is_free c =
-    on-err c.from_residual.result (not-small _ _ c.args.self.now c.self.view_is c.in_err-storage.ensures.words_are_free)
-
-pub invariant_of-result : goal.invariant_of-result
-invariant_of-result c = same-stored c.self.inside.object c.self.inside.storage c.in_ok-storage.storage c.in_ok-storage.ensures.same c.self.invariant
-
-pub returns-clause-same : goal.returns-clause-same
-returns-clause-same c = same-meaning c.self.inside.object c.self.inside.storage c.in_ok-storage.storage c.in_ok-storage.ensures.same ∙ c.self.view_is
+pub returns-in-None-clause-did : goal.returns-in-None-clause-did
+returns-in-None-clause-did c =
+    apart-did _ _ c.args.pass.now c.shared.new.pass c.args.self.now.place c.copied_apart.result
+    (ap (λ (m : Meaning). m.place) c.in-None.ensures.kept.0) c.in-None.ensures.kept.1 c.copied_apart.ensures.copied

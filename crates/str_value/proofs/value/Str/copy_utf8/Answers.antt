@@ -1,46 +1,33 @@
-use Rattle.std.proofs.Common.{◌≡◌, subst, IfOk}
-use Rattle.str_value.proofs.Kept.{words-kept, bytes-kept, units-kept}
-use Rattle.str_value.proofs.Parts.{ok-utf8, text-part8, text-part16, inside-part8, inside-part16}
+use Rattle.std.proofs.Common.{sym, ap, ◌∙◌, subst, ◌≡◌, ◌≤◌, IfOk, rules}
+use Rattle.text_spec.specs.Text.{utf8, repair}
+use Rattle.text_spec.specs.Views.{size_in}
+use Rattle.str_value.proofs.Between.{utf8-kept, utf16-kept, read-part8, read-part16, range-all, ok-utf8}
+use Rattle.str_value.proofs.Measuring.{boundary-inside}
 use Rattle.str_value.proofs.value.Str.copy_utf8.Goals as goal
 
-pub copy_between-requires-clause-inside : goal.copy_between-requires-clause-inside
-copy_between-requires-clause-inside c =
-    inside-part8 c.args.self.now _ _ (words-kept _ _ c.args.self.now _ _ c.self.invariant c.self.view_is c.in-Words.is c.count.ensures c.object_bytes-block.ensures) c.requires.high
+pub bytes_by_words-requires-clause-inside : goal.bytes_by_words-requires-clause-inside
+bytes_by_words-requires-clause-inside c =
+    subst (λ e. c.args.high ≤ size_in e c.args.self.now.text) (sym c.in-Utf8.ensures) (boundary-inside c.args.self.now c.args.high c.requires.high)
 
-pub copy_between-requires-in-Bytes-clause-inside : goal.copy_between-requires-in-Bytes-clause-inside
-copy_between-requires-in-Bytes-clause-inside c =
-    inside-part8 c.args.self.now _ _ (bytes-kept _ _ c.args.self.now _ _ c.self.invariant c.self.view_is c.in-Bytes.is c.as_slice-bytes.ensures.value) c.requires.high
+pub units_by_words-requires-clause-inside : goal.units_by_words-requires-clause-inside
+units_by_words-requires-clause-inside c =
+    subst (λ e. c.args.high ≤ size_in e c.args.self.now.text) (sym c.in-Utf16.ensures) (boundary-inside c.args.self.now c.args.high c.requires.high)
 
-pub text_between-requires-clause-inside : goal.text_between-requires-clause-inside
-text_between-requires-clause-inside c =
-    inside-part16 c.args.self.now _ _ (units-kept _ _ c.args.self.now _ _ c.self.invariant c.self.view_is c.in-Units.is c.as_slice-units.ensures.value) c.requires.high
+pub returns-in-Utf8-clause-value : goal.returns-in-Utf8-clause-value
+returns-in-Utf8-clause-value c =
+    subst (λ text. IfOk c.bytes_by_words.result (λ v. v.items ≡ text))
+    (read-part8 c.args.self.now c.args.low c.args.high (utf8-kept _ _ c.args.self.now c.self.invariant c.self.view_is (sym c.in-Utf8.ensures)) c.requires.low c.requires.high c.requires.order)
+    c.bytes_by_words.ensures.items
 
-pub returns-in-Words-clause-value : goal.returns-in-Words-clause-value
-returns-in-Words-clause-value c =
-    subst (λ text. IfOk c.copy_between.result (λ v. v.items ≡ text))
-    (text-part8 c.args.self.now _ _ _ (words-kept _ _ c.args.self.now _ _ c.self.invariant c.self.view_is c.in-Words.is c.count.ensures c.object_bytes-block.ensures)
-    c.requires.low c.requires.high c.requires.order) c.copy_between.ensures
+pub returns-in-Utf8-clause-utf8 : goal.returns-in-Utf8-clause-utf8
+returns-in-Utf8-clause-utf8 c =
+    ok-utf8 c.args.self.now c.args.low c.args.high c.bytes_by_words.result (utf8-kept _ _ c.args.self.now c.self.invariant c.self.view_is (sym c.in-Utf8.ensures)).scalars
+    (returns-in-Utf8-clause-value c)
 
-pub returns-in-Bytes-clause-value : goal.returns-in-Bytes-clause-value
-returns-in-Bytes-clause-value c =
-    subst (λ text. IfOk c.copy_between-in-Bytes.result (λ v. v.items ≡ text))
-    (text-part8 c.args.self.now _ _ _ (bytes-kept _ _ c.args.self.now _ _ c.self.invariant c.self.view_is c.in-Bytes.is c.as_slice-bytes.ensures.value)
-    c.requires.low c.requires.high c.requires.order) c.copy_between-in-Bytes.ensures
-
-pub returns-in-Units-clause-value : goal.returns-in-Units-clause-value
-returns-in-Units-clause-value c =
+pub returns-in_ok-units-in-Utf16-clause-value : goal.returns-in_ok-units-in-Utf16-clause-value
+returns-in_ok-units-in-Utf16-clause-value c =
     subst (λ text. IfOk c.text_between.result (λ v. v.items ≡ text))
-    (text-part16 c.args.self.now _ _ _ (units-kept _ _ c.args.self.now _ _ c.self.invariant c.self.view_is c.in-Units.is c.as_slice-units.ensures.value)
-    c.requires.low c.requires.high c.requires.order) c.text_between.ensures.value
-
-pub returns-in-Words-clause-utf8 : goal.returns-in-Words-clause-utf8
-returns-in-Words-clause-utf8 c =
-    ok-utf8 c.args.self.now c.args.low c.args.high c.copy_between.result
-    (words-kept _ _ c.args.self.now _ _ c.self.invariant c.self.view_is c.in-Words.is c.count.ensures c.object_bytes-block.ensures).scalars
-    (returns-in-Words-clause-value c)
-
-pub returns-in-Bytes-clause-utf8 : goal.returns-in-Bytes-clause-utf8
-returns-in-Bytes-clause-utf8 c =
-    ok-utf8 c.args.self.now c.args.low c.args.high c.copy_between-in-Bytes.result
-    (bytes-kept _ _ c.args.self.now _ _ c.self.invariant c.self.view_is c.in-Bytes.is c.as_slice-bytes.ensures.value).scalars
-    (returns-in-Bytes-clause-value c)
+    (ap (λ us. utf8 (repair us)) (range-all c.as_slice.result.now c.in_ok-units-in-Utf16.units.items c.len.result c.as_slice.ensures.value (search rules))
+    ∙ ap (λ us. utf8 (repair us)) c.in_ok-units-in-Utf16.ensures.items
+    ∙ read-part16 c.args.self.now c.args.low c.args.high (utf16-kept _ _ c.args.self.now c.self.invariant c.self.view_is (sym c.in-Utf16.ensures)) c.requires.low c.requires.high c.requires.order)
+    c.text_between.ensures.value

@@ -1,5 +1,0 @@
-use Rattle.object_words.proofs.Reading.{ascii-told}
-use Rattle.str_value.proofs.value.is_ascii.Goals as goal
-
-pub returns : goal.returns
-returns c = ascii-told _ _ c.is_ascii.ensures.cases
