@@ -4,8 +4,9 @@
 //! the base's positions, so an index of the one is an index of the other; its views, its Characters among them, are those of its own
 //! scalars. `slice` resolves two indices and rounds both down to scalar boundaries; `Sub::to_str` makes a value of the slice's text.
 //!
-//! Meaning: `specs/Slice.antt`, and of `slice` with its refusals `specs/Slicing.antt`. Start at `slicing.rt`. Memory is taken by the copy
-//! of a base that isn't Small, and by a new value. The rules are the project's own, after Swift's substrings.
+//! Meaning: `specs/Slice.antt`, and of `slice` with its refusals `specs/Slicing.antt`. Start at `slicing.rt`. The copy of a base in a slot
+//! shares it, where the pass shows a credit. Memory is taken as `Str::copy` takes it, and by a new value. The rules are the project's own,
+//! after Swift's substrings.
 #![tactic(auto)]
 
 mod error;

@@ -4,14 +4,15 @@ ghost use Rattle.text_spec.specs.Views.{size_in};
 ghost use Rattle.str_value.specs.Meaning.{storage_of};
 
 use crate::Sub;
-use crate::tests::cut;
+use crate::tests::{SLOTS, Source, base_of, cut, heap_of};
 use char_view::characters;
 use index_words::Index;
 use rounding::{bounds, resolve, scalar_floor, utf8_floor, utf16_floor};
+use std::alloc::Global;
 use std::marker::Brand;
 use std::process::Abort;
 use std::sync::ledger::{Blank, Ledger};
-use str_value::{MakeError, Pass, Str};
+use str_value::MakeError;
 use text_spec::Encoding;
 use unit_views::{ElementKind, calls, scalars, utf8};
 use utf16_view::utf16;
@@ -202,15 +203,38 @@ fn answers_are<A: Abort>(
     assert!(rt; !sub.crumbs_known());
 }
 
-/// "é😀" as the middle of "aé😀😀", where the storage goes on with a wide scalar.
+/// "é😀" as the middle of a base, where the storage goes on with a wide scalar.
+fn middle_answers<A: Abort>(
+    rt: &A,
+    alloc: Global,
+    slots: u32,
+    source: Source,
+    words: (u64, u64),
+    views: [Answers; 3],
+    rounded: [Option<u64>; 6],
+    first: First,
+) -> Result<(), MakeError> {
+    let (heap, all) = heap_of(rt, alloc, slots)?;
+    let mut pass = heap.pass(all);
+    let mut base = base_of(alloc, &mut pass, source)?;
+    match cut(rt, alloc, &mut base, &mut pass, words) {
+        Ok(mut sub) => answers_are(rt, &mut sub, views, rounded, first),
+        Err(fault) => assert!(rt; false, "{fault:?}"),
+    }
+    Ok(())
+}
+
 #[test]
 fn each_call_over_a_text_is_there_for_slices(rt: HostRuntime) -> Result<(), MakeError> {
-    let text = "aé😀😀";
-    let mut base = Str::from_utf8(rt.alloc(), &mut Pass::none(), text.as_bytes())?;
-    match cut(&rt, rt.alloc(), &mut base, 65540, 458756) {
-        Ok(mut sub) => answers_are(
+    let alloc = rt.alloc();
+    let units = [0x61, 0xE9, 0xD83D, 0xDE00, 0xD83D, 0xDE00];
+    for slots in SLOTS {
+        middle_answers(
             &rt,
-            &mut sub,
+            alloc,
+            slots,
+            Source::Utf8("aé😀😀"),
+            (65540, 458756),
             [
                 ((1, 7, 2), (Some(3), Some(3), Some(7)), (true, true)),
                 ((1, 7, 6), (Some(2), Some(6), Some(3)), (true, true)),
@@ -218,15 +242,13 @@ fn each_call_over_a_text_is_there_for_slices(rt: HostRuntime) -> Result<(), Make
             ],
             [Some(3), Some(1), Some(5), Some(3), Some(6), Some(3)],
             (0xC3, 1, 3, ('é', 2), 6, 6),
-        ),
-        Err(fault) => assert!(rt; false, "{fault:?}"),
-    }
-    let units = [0x61, 0xE9, 0xD83D, 0xDE00, 0xD83D, 0xDE00];
-    let mut base = Str::from_utf16(rt.alloc(), &mut Pass::none(), &units)?;
-    match cut(&rt, rt.alloc(), &mut base, 65544, 262152) {
-        Ok(mut sub) => answers_are(
+        )?;
+        middle_answers(
             &rt,
-            &mut sub,
+            alloc,
+            slots,
+            Source::Utf16(&units),
+            (65544, 262152),
             [
                 ((1, 4, 2), (Some(2), Some(2), Some(4)), (true, true)),
                 ((1, 4, 6), (Some(1), Some(2), Some(2)), (true, true)),
@@ -234,8 +256,7 @@ fn each_call_over_a_text_is_there_for_slices(rt: HostRuntime) -> Result<(), Make
             ],
             [Some(2), Some(2), Some(2), Some(2), Some(2), Some(3)],
             (0xE9, 2, 2, ('é', 1), 6, 6),
-        ),
-        Err(fault) => assert!(rt; false, "{fault:?}"),
+        )?;
     }
     Ok(())
 }
@@ -282,38 +303,58 @@ fn clusters(sub: &mut Sub) -> Clusters {
     cluster_answers::<Brand>(sub, Blank::new(1))
 }
 
+fn cluster_answers_are<A: Abort>(
+    rt: &A,
+    alloc: Global,
+    slots: u32,
+    source: Source,
+    words: (u64, u64),
+    wanted: Clusters,
+) -> Result<(), MakeError> {
+    let (heap, all) = heap_of(rt, alloc, slots)?;
+    let mut pass = heap.pass(all);
+    let mut base = base_of(alloc, &mut pass, source)?;
+    match cut(rt, alloc, &mut base, &mut pass, words) {
+        Ok(mut sub) => assert_eq!(rt; clusters(&mut sub), wanted),
+        Err(fault) => assert!(rt; false, "{fault:?}"),
+    }
+    Ok(())
+}
+
 /// The flags of Germany and France cut after their first half: the Characters are those of the slice's own three halves.
 #[test]
 fn characters_of_a_slice_are_those_of_its_own_text(rt: HostRuntime) -> Result<(), MakeError> {
-    let text = "🇩🇪🇫🇷";
-    let mut base = Str::from_utf8(rt.alloc(), &mut Pass::none(), text.as_bytes())?;
-    match cut(&rt, rt.alloc(), &mut base, 262148, 1048580) {
-        Ok(mut sub) => assert_eq!(rt;
-            clusters(&mut sub),
+    let alloc = rt.alloc();
+    let units = [
+        0xD83C, 0xDDE9, 0xD83C, 0xDDEA, 0xD83C, 0xDDEB, 0xD83C, 0xDDF7,
+    ];
+    for slots in SLOTS {
+        cluster_answers_are(
+            &rt,
+            alloc,
+            slots,
+            Source::Utf8("🇩🇪🇫🇷"),
+            (262148, 1048580),
             (
                 (4, 8, 16, 2),
                 Some((4, 12)),
                 [Some(12), Some(12), Some(12), Some(12)],
                 Ok(-2),
-            )
-        ),
-        Err(fault) => assert!(rt; false, "{fault:?}"),
-    }
-    let units = [
-        0xD83C, 0xDDE9, 0xD83C, 0xDDEA, 0xD83C, 0xDDEB, 0xD83C, 0xDDF7,
-    ];
-    let mut base = Str::from_utf16(rt.alloc(), &mut Pass::none(), &units)?;
-    match cut(&rt, rt.alloc(), &mut base, 131080, 524296) {
-        Ok(mut sub) => assert_eq!(rt;
-            clusters(&mut sub),
+            ),
+        )?;
+        cluster_answers_are(
+            &rt,
+            alloc,
+            slots,
+            Source::Utf16(&units),
+            (131080, 524296),
             (
                 (2, 4, 8, 2),
                 Some((2, 6)),
                 [Some(6), Some(6), Some(6), Some(6)],
                 Ok(-2),
-            )
-        ),
-        Err(fault) => assert!(rt; false, "{fault:?}"),
+            ),
+        )?;
     }
     Ok(())
 }

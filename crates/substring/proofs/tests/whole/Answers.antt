@@ -1,6 +1,6 @@
 use Rattle.std.proofs.Common.{arith, ◌∙◌}
 use Rattle.text_spec.proofs.Walk.{start-zero}
-use Rattle.str_value.proofs.Parts.{start-boundary}
+use Rattle.str_value.proofs.Between.{start-boundary}
 use Rattle.substring.proofs.tests.whole.Goals as goal
 
 pub copy_utf8-requires-clause-low : goal.copy_utf8-requires-clause-low

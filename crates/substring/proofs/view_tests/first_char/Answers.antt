@@ -1,5 +1,5 @@
 use Rattle.text_spec.proofs.Downward.{down-length}
-use Rattle.str_value.proofs.Parts.{start-boundary}
+use Rattle.str_value.proofs.Between.{start-boundary}
 use Rattle.substring.proofs.view_tests.first_char.Goals as goal
 
 pub scalar_at-requires-clause-boundary : goal.scalar_at-requires-clause-boundary

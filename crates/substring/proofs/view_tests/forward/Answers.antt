@@ -3,7 +3,7 @@ use Rattle.text_spec.specs.Views.{width_in}
 use Rattle.text_spec.proofs.Downward.{down-length}
 use Rattle.text_spec.proofs.Walk.{start-mono}
 use Rattle.str_value.specs.Meaning.{storage_of}
-use Rattle.str_value.proofs.Parts.{start-boundary}
+use Rattle.str_value.proofs.Between.{start-boundary}
 use Rattle.substring.proofs.view_tests.forward.Goals as goal
 
 pub fill_forward-size-requires-clause-high : goal.fill_forward-size-requires-clause-high

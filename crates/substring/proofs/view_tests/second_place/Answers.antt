@@ -1,5 +1,5 @@
 use Rattle.text_spec.proofs.Downward.{down-length}
-use Rattle.str_value.proofs.Parts.{start-boundary}
+use Rattle.str_value.proofs.Between.{start-boundary}
 use Rattle.substring.proofs.view_tests.second_place.Goals as goal
 
 pub pass_scalar-next-requires-clause-boundary : goal.pass_scalar-next-requires-clause-boundary
