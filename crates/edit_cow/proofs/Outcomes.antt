@@ -17,7 +17,7 @@ use Rattle.text_spec.specs.Offsets.{down}
 use Rattle.text_spec.specs.Views.{width_in}
 use Rattle.text_spec.proofs.Walk.{start-mono}
 use Rattle.str_value.specs.Meaning.{Meaning, storage_of, own_part}
-use Rattle.str_value.proofs.Parts.{down-mono}
+use Rattle.str_value.proofs.Between.{down-mono}
 use Rattle.rounding.specs.Refusals.{scalar_of}
 use Rattle.edit_cow.specs.Edits.{within_limit, rewritten, rewritten_between, in_order, after_first, after_second, edited, appended, refusal_of}
 

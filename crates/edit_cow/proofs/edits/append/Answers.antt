@@ -3,7 +3,7 @@ use Rattle.text_spec.specs.Offsets.{down}
 use Rattle.text_spec.specs.Views.{width_in}
 use Rattle.text_spec.proofs.Walk.{down-end}
 use Rattle.str_value.specs.Meaning.{storage_of}
-use Rattle.str_value.proofs.Parts.{start-boundary}
+use Rattle.str_value.proofs.Between.{start-boundary}
 use Rattle.edit_cow.specs.declared.error.EditError.TheVariants as refusal
 use Rattle.edit_cow.specs.Edits.{rewritten_between, appended}
 use Rattle.edit_cow.proofs.Outcomes.{at-end}

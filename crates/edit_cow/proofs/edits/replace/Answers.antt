@@ -1,6 +1,8 @@
-use Rattle.std.proofs.Common.{◌≡◌, sym, ap, subst, ◌∙◌, ◌⊎◌, inr, ◌<◌, length, OnOk, IfErr, Some, Ok, Err}
+use Rattle.std.proofs.Common.{◌≡◌, ◌≢◌, sym, ap, subst, ◌∙◌, ◌⊎◌, inr, ◌<◌, length, OnOk, IfErr, Some, Ok, Err}
 use Rattle.text_spec.specs.declared.encoding.Encoding.TheVariants.{Utf16}
 use Rattle.text_spec.specs.Text.{utf8}
+use Rattle.object_words.specs.Rows.{form_of}
+use Rattle.object_words.specs.declared.form.Form.TheVariants as form
 use Rattle.str_value.specs.Meaning.{storage_of, own_part}
 use Rattle.word_units.specs.Parts.{IsBoundaryIn, scalars_before}
 use Rattle.rounding.specs.Refusals.{scalar_of}
@@ -52,5 +54,5 @@ returns-clause-small_is_free g c none text h = c.rewrite.ensures.small_is_free n
 
 pub returns-clause-no_longer_is_free : goal.returns-clause-no_longer_is_free
 returns-clause-no_longer_is_free g c none text h =
-    subst (λ m. (storage_of m.row ≡ Utf16) ⊎ (length (utf8 m.text) < length (utf8 text))) (c.in_ok-to.ensures.kept ∙ c.in_ok-from.ensures.kept)
+    subst (λ m. (storage_of m.row ≡ Utf16) ⊎ (form_of m.row ≢ form.Owned) ⊎ (length (utf8 m.text) < length (utf8 text))) (c.in_ok-to.ensures.kept ∙ c.in_ok-from.ensures.kept)
     (c.rewrite.ensures.no_longer_is_free none text (right g c ∙ h))

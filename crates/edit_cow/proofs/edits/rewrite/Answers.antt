@@ -1,9 +1,11 @@
-use Rattle.std.proofs.Common.{◌≡◌, sym, ap, subst, ◌∙◌, ◌⊎◌, inl, inr, ⊎_elim, ◌<◌, length, chars, IfErr, Ok, Err, rules}
+use Rattle.std.proofs.Common.{◌≡◌, ◌≢◌, sym, ap, subst, ◌∙◌, ◌⊎◌, inl, inr, ⊎_elim, ◌<◌, length, chars, IfErr, Ok, Err, rules}
 use Rattle.text_spec.specs.Editing.{replaced}
 use Rattle.text_spec.specs.declared.encoding.Encoding.TheVariants.{Utf16}
 use Rattle.text_spec.specs.Offsets.{down}
 use Rattle.text_spec.specs.Text.{utf8}
 use Rattle.text_spec.specs.Views.{width_in}
+use Rattle.object_words.specs.Rows.{form_of}
+use Rattle.object_words.specs.declared.form.Form.TheVariants as form
 use Rattle.str_value.specs.Meaning.{storage_of}
 use Rattle.edit_cow.specs.declared.error.EditError.TheVariants as refusal
 use Rattle.edit_cow.specs.Edits.{rewritten_between, refusal_of}
@@ -63,5 +65,5 @@ returns-in_err-splice-clause-no_longer_is_free g c none new h =
     let wanting : refusal_of m ≡ refusal.OutOfMemory = cc (gone, none) in
     let text = replaced c.args.s.now.text (down (width_in (storage_of c.args.s.now.row)) c.args.s.now.text c.args.low) (down (width_in (storage_of c.args.s.now.row)) c.args.s.now.text c.args.high) (chars c.in-Ok.text.now) in
     let is = valid c.args.s.now.text c.args.with.now c.in-Ok.text.now _ _ c.in-Ok.ensures.cases.0 c.in-Ok.ensures.cases.1 in
-    subst (λ t. (storage_of c.args.s.now.row ≡ Utf16) ⊎ (length (utf8 c.args.s.now.text) < length (utf8 t))) (sym (limit-text text new (sym is ∙ h)))
+    subst (λ t. (storage_of c.args.s.now.row ≡ Utf16) ⊎ (form_of c.args.s.now.row ≢ form.Owned) ⊎ (length (utf8 c.args.s.now.text) < length (utf8 t))) (sym (limit-text text new (sym is ∙ h)))
     (c.in_err-splice.ensures.no_longer_is_free (ap Err (no-memory m wanting)))
