@@ -1,15 +1,12 @@
 -- What an edit of a value answers, as the answer of an op.
-use Rattle.std.proofs.Common.{◌≡◌, refl, sym, ap, subst, ◌∙◌, ℕ, ◌<◌, ◌≤◌, nat_lt, if◌then◌else◌, ◌⊎◌, inl, inr, ⊎_elim, List, length, chars, Bool, true, false, cond, IsUtf8, IsOk, Some, Result, Ok, Err, arith}
+use Rattle.std.proofs.Common.{◌≡◌, refl, sym, ap, subst, ◌∙◌, ℕ, ◌<◌, ◌≤◌, nat_lt, if◌then◌else◌, ◌⊎◌, inl, inr, ⊎_elim, List, length, chars, IsUtf8, IsOk, Some, Ok, Err, arith}
 use Rattle.std.proofs.lemmas.Bool.{cases_lt, cond-true, cond-false, lt-ltb, le-ltb}
-use Rattle.std.specs.Result.{result_unwrap_or}
-use Rattle.text_spec.specs.Boundaries.{IsScalarBoundary}
 use Rattle.text_spec.specs.Offsets.{down}
 use Rattle.text_spec.specs.Text.{utf8}
 use Rattle.text_spec.specs.Views.{width_in, size_in}
 use Rattle.text_spec.specs.declared.encoding.Encoding.{Encoding}
 use Rattle.text_spec.proofs.Walk.{start-zero}
 use Rattle.rounding.specs.Resolving.{Bounds}
-use Rattle.query_lines.specs.declared.reply.OpReply.{OpReply}
 use Rattle.query_lines.specs.declared.reply.OpReply.TheVariants as answer
 use Rattle.str_value.specs.Meaning.{Meaning, storage_of, own_part, spliced}
 use Rattle.edit_cow.specs.declared.error.EditError.{EditError}

@@ -1,5 +1,5 @@
 -- The index of a scalar boundary, and the scalar that an edit finds there.
-use Rattle.std.proofs.Common.{◌≡◌, refl, sym, ap, ◌∙◌, ℕ, ◌<◌, ◌≤◌, ◌&&◌, not, true, false, List, length, Some, if◌then◌else◌, arith}
+use Rattle.std.proofs.Common.{◌≡◌, sym, ap, ◌∙◌, ℕ, ◌≤◌, ◌&&◌, not, true, false, length, Some, if◌then◌else◌, arith}
 use Rattle.std.specs.Option.{option_map}
 use Rattle.text_spec.specs.declared.encoding.Encoding.{Encoding}
 use Rattle.text_spec.specs.declared.encoding.Encoding.TheVariants.{Utf8, Utf16}

@@ -1,5 +1,5 @@
 -- The answers that places and parts of a text give.
-use Rattle.std.proofs.Common.{◌≡◌, true, false, refl, sym, ap, ◌∙◌, Bool, cond, ◌||◌, nat_lt, ℕ, ◌-◌, ◌<◌, ◌≤◌, List, length, take, ◌⊎◌, ⊎_elim, arith, Option}
+use Rattle.std.proofs.Common.{◌≡◌, true, false, refl, sym, ap, ◌∙◌, Bool, ◌||◌, nat_lt, ℕ, ◌-◌, ◌<◌, ◌≤◌, List, length, take, ◌⊎◌, ⊎_elim, arith, Option}
 use Rattle.std.proofs.lemmas.Bool.{cond-true, cond-false, lt-ltb, le-ltb}
 use Rattle.std.proofs.lemmas.List.{take_all}
 use Rattle.std.specs.List.{slice_get}

@@ -1,7 +1,7 @@
 -- What an op answers on a text, a list of scalars, and the text that it leaves; and ops in order, each on the text that the one before
 -- it left. Offsets are in UTF-16 code units (The Unicode Standard, section 3.9, D91), of the op `place` in UTF-8 bytes (D92), and are
 -- rounded down to the scalar that they fall in; whether they are out of bounds is asked of the offsets as they were given (ours).
-use Rattle.std.specs.Prelude.{◌≡◌, ℕ, ◌+◌, ◌||◌, List, [], ◌∷◌, take, length, chars, fold, nat_lt, if◌then◌else◌, Bool, true, false, Option, Result, Ok, Err, slice_get}
+use Rattle.std.specs.Prelude.{◌≡◌, ℕ, ◌+◌, ◌||◌, List, [], ◌∷◌, take, length, chars, fold, nat_lt, if◌then◌else◌, Bool, true, false, Result, Ok, Err, slice_get}
 use Rattle.std.specs.Result.{result_unwrap_or}
 use Rattle.text_spec.specs.Editing.{replaced}
 use Rattle.text_spec.specs.Text.{utf8, utf16}
@@ -144,3 +144,12 @@ takes_memory (answer.Counts scalars utf16 utf8) = true
 takes_memory (answer.Number n) = false
 takes_memory (answer.OutOfBounds unit n) = false
 takes_memory answer.TooLong = false
+
+-- the op asks for the place at an offset in UTF-16 code units
+abbrev pub is_at : Op → Bool
+is_at (op.At offset) = true
+is_at (op.Place offset) = false
+is_at (op.Slice a b) = false
+is_at (op.Edit a b with) = false
+is_at (op.Count view) = false
+is_at op.All = false

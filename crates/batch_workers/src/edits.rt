@@ -4,8 +4,9 @@ ghost use Rattle.std.specs.Result.{result_unwrap_or};
 ghost use Rattle.text_spec.specs.Boundaries.{IsScalarBoundary};
 ghost use Rattle.text_spec.specs.Views.{width_in, size_in};
 ghost use Rattle.query_lines.specs.Replies.{IsShownOp};
-ghost use Rattle.str_value.specs.Meaning.{storage_of, spliced};
+ghost use Rattle.str_value.specs.Meaning.{storage_of, spliced, OfHeap};
 ghost use Rattle.batch_workers.specs.Ops.{edited, edit_reply, within_limit, counts_of, is_counts, text_bytes};
+ghost use Rattle.batch_workers.specs.Working.{IsWorked, edits_of};
 
 use crate::place::part_at;
 use crate::questions::out_of_bounds;
@@ -14,30 +15,31 @@ use query_lines::OpReply;
 use rounding::{bounds, index_from};
 use std::alloc::Global;
 use std::sync::ledger::Ledger;
-use str_value::{Pass, Str};
+use str_value::{Str, StrPass};
 use text_spec::{Encoding, OutOfMemory};
 use word_units::{Steps, Text};
 
 /// Puts the text whose UTF-8 is `with` in place of the text between two offsets, and answers the counts of the new text. The value is
-/// as it was where it answers anything else, or where memory is wanting.
+/// as it was where it answers anything else, or where memory is wanting, and the pass is too.
 pub(crate) fn edit<'h, L: Ledger>(
     alloc: Global,
     text: &mut Str<'h>,
-    pass: &mut Pass<'h>,
+    pass: &mut StrPass<'h>,
     a: u64,
     b: u64,
     with: &[u8],
     steps: &mut Steps<L>,
 ) -> Result<OpReply, OutOfMemory>
-    requires { IsUtf8 with.now }
+    requires heap { OfHeap pass.old text.old.place }
+    requires utf8 { IsUtf8 with.now }
     ensures answer { IfOk result (λ reply. reply ≡ edit_reply (edited text.old.text a b (chars with.now))) }
     ensures text { OnOk result (text.new.text ≡ result_unwrap_or (edited text.old.text a b (chars with.now)) text.old.text) }
     ensures unedited { IfOk result (λ reply. is_counts reply ≡ false → text.new ≡ text.old) }
+    ensures worked { IfOk result (λ reply. IsWorked pass.old text.old pass.new text.new (edits_of reply)) }
     ensures free { OnErr result (IsOk (edited text.old.text a b (chars with.now))) }
-    ensures kept { OnErr result (text.new ≡ text.old) }
+    ensures kept { OnErr result ((text.new ≡ text.old) × (pass.new ≡ pass.old)) }
     ensures shown { IfOk result IsShownOp }
     ensures none { IfOk result (λ reply. text_bytes reply ≡ 0) }
-    ensures pass { pass.new ≡ pass.old }
 {
     match part_at(text, a, b, steps) {
         Ok(part) => edit_between(alloc, text, pass, part.low, part.high, with, steps),
@@ -49,12 +51,13 @@ pub(crate) fn edit<'h, L: Ledger>(
 fn edit_between<'h, L: Ledger>(
     alloc: Global,
     text: &mut Str<'h>,
-    pass: &mut Pass<'h>,
+    pass: &mut StrPass<'h>,
     low: u64,
     high: u64,
     with: &[u8],
     steps: &mut Steps<L>,
 ) -> Result<OpReply, OutOfMemory>
+    requires heap { OfHeap pass.old text.old.place }
     requires utf8 { IsUtf8 with.now }
     requires low { IsScalarBoundary (width_in (storage_of text.old.row)) text.old.text low }
     requires high { IsScalarBoundary (width_in (storage_of text.old.row)) text.old.text high }
@@ -63,11 +66,11 @@ fn edit_between<'h, L: Ledger>(
     ensures answer { IfOk result (λ reply. reply ≡ edit_reply (within_limit (spliced text.old low high (chars with.now)))) }
     ensures text { OnOk result (text.new.text ≡ result_unwrap_or (within_limit (spliced text.old low high (chars with.now))) text.old.text) }
     ensures unedited { IfOk result (λ reply. is_counts reply ≡ false → text.new ≡ text.old) }
+    ensures worked { IfOk result (λ reply. IsWorked pass.old text.old pass.new text.new (edits_of reply)) }
     ensures free { OnErr result (IsOk (within_limit (spliced text.old low high (chars with.now)))) }
-    ensures kept { OnErr result (text.new ≡ text.old) }
+    ensures kept { OnErr result ((text.new ≡ text.old) × (pass.new ≡ pass.old)) }
     ensures shown { IfOk result IsShownOp }
     ensures none { IfOk result (λ reply. text_bytes reply ≡ 0) }
-    ensures pass { pass.new ≡ pass.old }
 {
     let (_low, _high) = bounds(text);
     let encoding = text.encoding();
@@ -84,8 +87,9 @@ fn edit_between<'h, L: Ledger>(
 }
 
 // The three counts of a text, in one pass over it.
-fn counts(text: &Str) -> OpReply
-    ensures { result ≡ counts_of text.now.text }
+fn counts(text: &mut Str) -> OpReply
+    ensures counts { result ≡ counts_of text.old.text }
+    ensures kept { text.new ≡ text.old }
 {
     let lengths = text.lengths();
     OpReply::Counts {

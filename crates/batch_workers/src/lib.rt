@@ -1,7 +1,7 @@
 //! The ops of a line: questions on one value and edits of it, in order.
 //!
 //! `run_ops` answers each op on the text that the one before it left. Its answers and the text afterwards are those of the plain fold in
-//! `specs/Ops.antt`. Start at `run.rt`.
+//! `specs/Ops.antt`; what the ops do to the value beside its text, and on the heap, is in `specs/Working.antt`. Start at `run.rt`.
 //!
 //! | file | what it does |
 //! |---|---|

@@ -94,12 +94,13 @@ pub(crate) fn slice<L: Ledger>(
 }
 
 /// The whole text.
-pub(crate) fn whole(alloc: Global, text: &Str, spent: u64) -> Result<OpReply, OutOfMemory>
+pub(crate) fn whole(alloc: Global, text: &mut Str, spent: u64) -> Result<OpReply, OutOfMemory>
     requires { spent ≤ answer_limit }
-    ensures answer { IfOk result (λ reply. reply ≡ text_reply spent text.now.text) }
-    ensures free { OnErr result (takes_memory (text_reply spent text.now.text) ≡ true) }
+    ensures answer { IfOk result (λ reply. reply ≡ text_reply spent text.old.text) }
+    ensures free { OnErr result (takes_memory (text_reply spent text.old.text) ≡ true) }
     ensures shown { IfOk result IsShownOp }
     ensures within { IfOk result (λ reply. spent + text_bytes reply ≤ answer_limit) }
+    ensures kept { text.new ≡ text.old }
 {
     let (low, high) = (text.low(), text.high());
     between(alloc, text, spent, low, high)
@@ -108,19 +109,20 @@ pub(crate) fn whole(alloc: Global, text: &Str, spent: u64) -> Result<OpReply, Ou
 // The text between two boundaries of the storage, unless it would be too much. Only what is answered is copied.
 fn between(
     alloc: Global,
-    text: &Str,
+    text: &mut Str,
     spent: u64,
     low: u64,
     high: u64,
 ) -> Result<OpReply, OutOfMemory>
     requires spent { spent ≤ answer_limit }
-    requires low { IsScalarBoundary (width_in (storage_of text.now.row)) text.now.text low }
-    requires high { IsScalarBoundary (width_in (storage_of text.now.row)) text.now.text high }
+    requires low { IsScalarBoundary (width_in (storage_of text.old.row)) text.old.text low }
+    requires high { IsScalarBoundary (width_in (storage_of text.old.row)) text.old.text high }
     requires order { low ≤ high }
-    ensures answer { IfOk result (λ reply. reply ≡ text_reply spent (text_between text.now low high)) }
-    ensures free { OnErr result (takes_memory (text_reply spent (text_between text.now low high)) ≡ true) }
+    ensures answer { IfOk result (λ reply. reply ≡ text_reply spent (text_between text.old low high)) }
+    ensures free { OnErr result (takes_memory (text_reply spent (text_between text.old low high)) ≡ true) }
     ensures shown { IfOk result IsShownOp }
     ensures within { IfOk result (λ reply. spent + text_bytes reply ≤ answer_limit) }
+    ensures kept { text.new ≡ text.old }
 {
     if spent + text.utf8_length(low, high) > ANSWER_LIMIT {
         return Ok(OpReply::TooLong);

@@ -1,4 +1,4 @@
-use Rattle.std.proofs.Common.{◌≡◌, List, ℕ, Result, sym, ap, subst, ◌∙◌, chars, IfOk, OnOk, OnErr, IsOk}
+use Rattle.std.proofs.Common.{◌≡◌, refl, List, ℕ, Result, sym, ap, subst, ◌∙◌, chars, IfOk, OnOk, OnErr, IsOk}
 use Rattle.std.proofs.lemmas.Bool.{cond-false}
 use Rattle.std.specs.Result.{result_unwrap_or}
 use Rattle.text_spec.specs.declared.encoding.Encoding.TheVariants.{Utf16}
@@ -6,9 +6,11 @@ use Rattle.text_spec.specs.Views.{width_in}
 use Rattle.text_spec.proofs.Downward.{down-length}
 use Rattle.query_lines.specs.declared.reply.OpReply.{OpReply}
 use Rattle.str_value.specs.Meaning.{Meaning, storage_of, spliced}
-use Rattle.batch_workers.specs.Ops.{is_out, within_limit, edited, edit_reply}
+use Rattle.batch_workers.specs.Ops.{is_out, within_limit, edit_reply}
+use Rattle.batch_workers.specs.Working.{edits_of}
 use Rattle.batch_workers.proofs.Boundaries.{boundary-there, inside-there, places-in-order}
 use Rattle.batch_workers.proofs.Parts.{spliced-places}
+use Rattle.batch_workers.proofs.Working.{worked-nothing}
 use Rattle.batch_workers.proofs.edits.edit.Goals as goal
 
 pub edit_between-requires-clause-low : goal.edit_between-requires-clause-low
@@ -59,3 +61,7 @@ returns-in-Ok-clause-free g c =
     ∙ ap within_limit (spliced-places now c.args.a c.args.b c.in-Ok.part.low c.in-Ok.part.high with c.in-Ok.ensures.low c.in-Ok.ensures.high)
     ∙ sym (cond-false (is_out now.text c.args.a c.args.b) _ _ c.in-Ok.ensures.inside))
     c.edit_between.ensures.free
+
+pub returns-in-Err-clause-worked : goal.returns-in-Err-clause-worked
+returns-in-Err-clause-worked g c =
+    worked-nothing c.args.pass.now c.args.pass.now c.args.text.now c.part_at.new.text (edits_of c.out_of_bounds.result) refl c.part_at.ensures.kept c.requires.heap

@@ -4,7 +4,7 @@ use Rattle.text_spec.specs.declared.encoding.Encoding.TheVariants.{Utf16}
 use Rattle.text_spec.specs.Views.{width_in}
 use Rattle.text_spec.proofs.Downward.{down-length}
 use Rattle.str_value.specs.Meaning.{Meaning, storage_of, text_between}
-use Rattle.batch_workers.specs.Ops.{is_out, text_reply, slice_reply, takes_memory}
+use Rattle.batch_workers.specs.Ops.{is_out, text_reply, takes_memory}
 use Rattle.batch_workers.proofs.Boundaries.{boundary-there, places-in-order}
 use Rattle.batch_workers.proofs.Parts.{between-places}
 use Rattle.batch_workers.proofs.questions.slice.Goals as goal

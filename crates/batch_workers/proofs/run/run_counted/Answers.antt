@@ -1,8 +1,14 @@
-use Rattle.std.proofs.Common.{rules, [], ◌∷◌, ◌≡◌, ◌<◌, ◌+◌, ◌++◌, sym, ap, subst, ◌∙◌, drop, length, All, Some, false, arith}
-use Rattle.std.proofs.lemmas.List.Elements.{All-pop, All-push}
+use Rattle.std.proofs.Common.{rules, refl, [], ◌∷◌, ◌≡◌, ◌<◌, ◌+◌, ◌++◌, sym, ap, subst, drop, length, All, Some, true, false, inr, arith}
+use Rattle.std.proofs.lemmas.List.Elements.{All-pop, All-push, All-get_or}
+use Rattle.slot_table.specs.Owners.{PassSeen}
+use Rattle.slot_accounts.specs.Account.{sum_of}
+use Rattle.slot_accounts.proofs.Doing.{sum_of-append}
 use Rattle.query_lines.specs.Replies.{IsShownOp}
-use Rattle.batch_workers.specs.Ops.{op_replies, is_counts, IsLeftBy}
+use Rattle.str_value.specs.Meaning.{Meaning}
+use Rattle.batch_workers.specs.Ops.{op_replies, is_counts, is_at, IsLeftBy}
+use Rattle.batch_workers.specs.Working.{IsWorked, edits_of}
 use Rattle.batch_workers.proofs.Runs.{text-more, answers-more}
+use Rattle.batch_workers.proofs.Working.{worked-nothing, worked-then, worked-more, read-nothing, read-then, at_most, edit-one, on_err, some-length}
 use Rattle.batch_workers.proofs.run.run_counted.Goals as goal
 
 pub returns-in_err-push-clause-some_first : goal.returns-in_err-push-clause-some_first
@@ -31,8 +37,56 @@ loop-op-preserved g c =
       so_far = text-more c.args.s.now.text c.loop-op.s.text c.run_op.new.s.text c.args.ops.now c.loop-op.op-index c.op-item.result more c.op-item.is inv.so_far is.text;
       unedited = λ all.
           let none = All-pop (λ r. is_counts r ≡ false) c.push.new.self.items c.loop-op.replies.items (Some reply) pushed all in
-          is.unedited none.1 ∙ inv.unedited none.0;
+          read-then _ _ _ (inv.unedited none.0) (is.unedited none.1);
       shown = subst (All IsShownOp) (sym pushed) (All-push IsShownOp c.loop-op.replies.items reply inv.shown is.shown);
       within = omega (arith, is.within, c.text_bytes-answered.ensures);
-      pass = is.pass ∙ inv.pass;
+      worked =
+          subst (λ items. IsWorked c.args.pass.now c.args.s.now c.run_op.new.pass c.run_op.new.s (sum_of edits_of items)) (sym pushed)
+          (worked-more _ _ _ _ _ _ (omega (arith, sum_of-append edits_of c.loop-op.replies.items (reply ∷ []))) (worked-then _ _ _ _ _ _ _ _ inv.worked is.worked));
+      at_most = at_most c.push.new.self.items c.loop-op.replies.items reply c.loop-op.op-index pushed inv.at_most;
+      learned = λ asked able.
+          let here = All-get_or (λ o. is_at o ≡ true) c.args.ops.now c.loop-op.op-index c.op-item.result more asked in
+          let knows = is.learned (subst (λ o. is_at o ≡ true) (sym c.op-item.is) here) (inv.learned asked able).0 in
+          (record { may = knows.may; can = inr knows.there }, λ _. knows.there);
     }
+
+-- ---- what was done as far as the ops are
+pub loop-op-init : goal.loop-op-init
+loop-op-init g c =
+    let none = c.in_ok-replies.ensures.items in
+    record {
+      answers = ap (λ items. items ++ op_replies c.args.s.now.text c.args.spent c.args.ops.now) none;
+      so_far = refl;
+      unedited = λ all. read-nothing c.args.s.now c.args.s.now refl;
+      shown = λ k d h. absurd (omega (arith, ap length none, h));
+      within = c.requires.within;
+      worked = worked-nothing c.args.pass.now c.args.pass.now c.args.s.now c.args.s.now _ refl refl c.requires.heap;
+      at_most = omega (arith, ap (sum_of edits_of) none);
+      learned = λ asked able. (able, λ h. absurd (omega (arith, h)));
+    }
+
+pub returns-in_err-replies-clause-left : goal.returns-in_err-replies-clause-left
+returns-in_err-replies-clause-left g c =
+    on_err c.from_residual.result _ (worked-nothing c.args.pass.now c.args.pass.now c.args.s.now c.args.s.now (length c.args.ops.now) refl refl c.requires.heap)
+
+pub returns-in_err-reply-clause-left : goal.returns-in_err-reply-clause-left
+returns-in_err-reply-clause-left g c =
+    let more : c.loop-op.op-index < length c.args.ops.now = omega arith in
+    let inv = c.loop-op.invariant in
+    let kept = c.in_err-reply.ensures.kept in
+    on_err c.from_residual-in_err-reply.result _
+    (subst (λ (p : PassSeen). IsWorked c.args.pass.now c.args.s.now p c.run_op.new.s (length c.args.ops.now)) (sym kept.1)
+    (subst (λ (m : Meaning). IsWorked c.args.pass.now c.args.s.now c.loop-op.pass m (length c.args.ops.now)) (sym kept.0)
+    (worked-more c.args.pass.now c.args.s.now c.loop-op.pass c.loop-op.s _ _ (omega (arith, inv.at_most, more)) inv.worked)))
+
+pub returns-in_err-push-clause-left : goal.returns-in_err-push-clause-left
+returns-in_err-push-clause-left g c =
+    let more : c.loop-op.op-index < length c.args.ops.now = omega arith in
+    let inv = c.loop-op.invariant in
+    on_err c.from_residual-in_err-push.result _
+    (worked-more c.args.pass.now c.args.s.now c.run_op.new.pass c.run_op.new.s _ _ (omega (arith, inv.at_most, more, edit-one c.in_ok-reply.reply))
+    (worked-then c.args.pass.now c.args.s.now c.loop-op.pass c.loop-op.s c.run_op.new.pass c.run_op.new.s _ _ inv.worked c.in_ok-reply.ensures.worked))
+
+pub returns-clause-learned : goal.returns-clause-learned
+returns-clause-learned g c some asked able =
+    (c.loop-op.invariant.learned asked able).1 (omega (arith, c.loop-op-test.false, some-length c.args.ops.now some))
