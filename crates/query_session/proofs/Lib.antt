@@ -1,5 +1,10 @@
 pub mod States
+pub mod Sums
+pub mod Maps
 pub mod Held
-pub mod Loads
+pub mod Storing
+pub mod Accounts
+pub mod Texts
+pub mod Decoding
 pub mod Copies
 pub mod Ran

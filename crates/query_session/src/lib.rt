@@ -6,9 +6,11 @@
 //! Meaning: `specs/State.antt`, `specs/Reply.antt`, and of ops `specs/Ops.antt` of batch_workers. Start at `session.rt`.
 #![tactic(auto)]
 
+mod loads;
 mod named;
 mod names;
 mod session;
+mod stored;
 mod words;
 
 pub use session::Session;

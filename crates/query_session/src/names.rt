@@ -1,12 +1,17 @@
 //! The values by their names.
-ghost use Rattle.std.specs.Prelude.{◌≡◌, ◌<◌, ℕ, List, true, false, All, Some, None, IfOk, IfSome, take, OnOk, OnErr, IsTrue, string_bytes};
+ghost use Rattle.std.specs.Prelude.{◌≡◌, ◌+◌, ℕ, List, All, Some, None, IfOk, IfSome, MatchOption, take, OnOk, OnErr, IsTrue, string_bytes};
+ghost use Rattle.std.specs.FinMap as finite;
+ghost use Rattle.slot_model.specs.declared.event.Event.{Event};
+ghost use Rattle.slot_accounts.specs.Account.{Did, Keeps};
 ghost use Rattle.query_lines.specs.WellFormed.{IsWellFormedOp};
 ghost use Rattle.query_lines.specs.Replies.{IsShownOp};
-ghost use Rattle.query_session.specs.Reply.{on_reply, results_or_no_name};
-ghost use Rattle.query_session.specs.State.{text_of, is_in_use, has_room, store, forget};
+ghost use Rattle.query_lines.specs.declared.command.Command.TheVariants as command;
 ghost use Rattle.canon_order.specs.Equivalence.{order_of};
-ghost use Rattle.std.specs.Option.{option_map};
-ghost use Rattle.std.specs.FinMap as finite;
+ghost use Rattle.str_value.specs.Meaning.{OfHeap, own};
+ghost use Rattle.query_session.specs.Reply.{on_reply, results_or_no_name};
+ghost use Rattle.query_session.specs.State.{text_of, is_in_use, has_room};
+ghost use Rattle.query_session.specs.Values.{IsSound, texts_of, credits_in, credit_in};
+ghost use Rattle.query_session.specs.Steps.{CopiedIn, Done};
 
 use batch_workers::run_ops;
 use query_lines::{Op, OpReplies};
@@ -16,7 +21,7 @@ use std::collections::BTreeMap;
 use std::marker::{Brand, Model};
 use std::mem::swap;
 use std::sync::ledger::{Blank, Ledger};
-use str_value::{MakeError, Pass, Str};
+use str_value::{MakeError, Str, StrPass};
 use text_spec::OutOfMemory;
 use word_units::Steps;
 
@@ -31,12 +36,14 @@ impl<'h> Model for Names<'h> {
     ghost use Rattle.std.specs.Prelude.{◌≡◌};
     ghost use Rattle.std.specs.FinMap as finite;
     ghost use Rattle.std.specs.Coded.{coded_ℕ, coded_list};
-    ghost use Rattle.query_session.specs.State.{State};
+    ghost use Rattle.str_value.specs.contracts.value.Str.{the_row};
+    ghost use Rattle.query_session.specs.Codes.{no_lifetime};
+    ghost use Rattle.query_session.specs.Values.{Values};
     ghost use Rattle.query_session.specs.Held.{held};
 
-    ghost Value = { State };
+    ghost Value = { Values };
 
-    ghost coded = { finite.code (coded_list coded_ℕ) (coded_list coded_ℕ) };
+    ghost coded = { finite.code (coded_list coded_ℕ) (the_row no_lifetime).coded };
 
     ghost view = { λ n. held n.values.entries };
 
@@ -54,34 +61,32 @@ impl<'h> Names<'h> {
     }
 
     pub(crate) fn count(&self) -> usize
-        ensures { result ≡ finite.len self.now }
+        ensures { result ≡ finite.len (texts_of self.now) }
     {
         self.count
     }
 
-    pub(crate) fn get(&self, name: &str) -> Option<&Str<'h>>
-        ensures { option_map (λ s. s.now.text) result ≡ finite.get self.now name.now }
-    {
-        self.values.get(name)
-    }
-
     pub(crate) fn has(&self, name: &str) -> bool
-        ensures { result ≡ is_in_use self.now name.now }
+        ensures { result ≡ is_in_use (texts_of self.now) name.now }
     {
-        self.get(name).is_some()
+        self.values.get(name).is_some()
     }
 
-    // A copy of the value of a name.
+    // A copy of the value of a name in use.
     pub(crate) fn copy(
         &mut self,
-        pass: &mut Pass<'h>,
+        pass: &mut StrPass<'h>,
         alloc: Global,
         name: &str,
     ) -> Result<Str<'h>, OutOfMemory>
-        requires { IsTrue (is_in_use self.old name.now) }
-        ensures text { IfOk result (λ s. text_of self.old name.now ≡ Some s.text) }
-        ensures kept { self.new ≡ self.old }
-        ensures pass { pass.new ≡ pass.old }
+        requires name { IsTrue (is_in_use (texts_of self.old) name.now) }
+        requires sound { IsSound self.old pass.old }
+        ensures copied { IfOk result (λ c. CopiedIn self.old name.now pass.old self.new pass.new c) }
+        ensures credits { IfOk result (λ c. Keeps pass.old (credits_in self.old) pass.new (credits_in self.new + credit_in c)) }
+        ensures sound { IfOk result (λ c. IsSound self.new pass.new) }
+        ensures heap { IfOk result (λ c. OfHeap pass.new c.place) }
+        ensures one_heap { pass.new.heap ≡ pass.old.heap }
+        ensures refused { OnErr result ((self.new ≡ self.old) × (pass.new ≡ pass.old)) }
     {
         match self.values.get_mut(name) {
             Some(value) => value.copy(alloc, pass),
@@ -92,15 +97,15 @@ impl<'h> Names<'h> {
     // The order of the texts of two names. No value is copied: the first one stands outside the map meanwhile.
     pub(crate) fn compare(
         &mut self,
-        pass: &mut Pass<'h>,
+        pass: &mut StrPass<'h>,
         alloc: Global,
         a: &str,
         b: &str,
     ) -> Result<Ordering, OutOfMemory>
-        requires first { IsTrue (is_in_use self.old a.now) }
-        requires second { IsTrue (is_in_use self.old b.now) }
-        ensures order { IfOk result (λ order. (left right : List ℕ) → text_of self.old a.now ≡ Some left → text_of self.old b.now ≡ Some right
-            → order ≡ order_of left right) }
+        requires first { IsTrue (is_in_use (texts_of self.old) a.now) }
+        requires second { IsTrue (is_in_use (texts_of self.old) b.now) }
+        ensures order { IfOk result (λ order. (left right : List ℕ) → text_of (texts_of self.old) a.now ≡ Some left
+            → text_of (texts_of self.old) b.now ≡ Some right → order ≡ order_of left right) }
         ensures kept { self.new ≡ self.old }
         ensures pass { pass.new ≡ pass.old }
     {
@@ -111,7 +116,6 @@ impl<'h> Names<'h> {
         self.exchange(a, &mut left);
         let order = self.compare_to(alloc, &mut left, b);
         self.exchange(a, &mut left);
-        left.release(pass);
         order
     }
 
@@ -122,8 +126,8 @@ impl<'h> Names<'h> {
         left: &mut Str<'h>,
         name: &str,
     ) -> Result<Ordering, OutOfMemory>
-        requires { IsTrue (is_in_use self.old name.now) }
-        ensures order { IfOk result (λ order. (right : List ℕ) → text_of self.old name.now ≡ Some right → order ≡ order_of left.old.text right) }
+        requires { IsTrue (is_in_use (texts_of self.old) name.now) }
+        ensures order { IfOk result (λ order. (right : List ℕ) → text_of (texts_of self.old) name.now ≡ Some right → order ≡ order_of left.old.text right) }
         ensures kept { self.new ≡ self.old }
         ensures left { left.new ≡ left.old }
     {
@@ -135,9 +139,9 @@ impl<'h> Names<'h> {
 
     // Exchanges the value of a name with another one. No memory.
     fn exchange(&mut self, name: &str, value: &mut Str<'h>)
-        requires { IsTrue (is_in_use self.old name.now) }
-        ensures stored { self.new ≡ store self.old name.now value.old.text }
-        ensures taken { text_of self.old name.now ≡ Some value.new.text }
+        requires { IsTrue (is_in_use (texts_of self.old) name.now) }
+        ensures stored { self.new ≡ finite.insert self.old name.now value.old }
+        ensures taken { finite.get self.old name.now ≡ Some value.new }
     {
         match self.values.get_mut(name) {
             Some(held) => swap(held, value),
@@ -145,20 +149,31 @@ impl<'h> Names<'h> {
         }
     }
 
-    // Releases the value of a name, if the name is in use, and answers whether it is. It is in use no more.
-    pub(crate) fn remove(&mut self, pass: &mut Pass<'h>, name: &str) -> bool
-        ensures found { result ≡ is_in_use self.old name.now }
-        ensures forgotten { IsTrue result → self.new ≡ forget self.old name.now }
-        ensures kept { result ≡ false → self.new ≡ self.old }
-        ensures pass { pass.new ≡ pass.old }
+    // The value of a name, which is in use no more.
+    pub(crate) fn take(&mut self, name: &str) -> Option<Str<'h>>
+        ensures value { result ≡ finite.get self.old name.now }
+        ensures left { self.new ≡ finite.remove self.old name.now }
     {
         match self.values.remove(name) {
-            Some(removed) => {
-                removed.release(pass);
+            Some(value) => {
                 self.count -= 1;
-                true
+                Some(value)
             }
-            None => false,
+            None => None,
+        }
+    }
+
+    // The value of some name, which is in use no more; `None` where no name is.
+    fn take_any(&mut self) -> Option<Str<'h>>
+        ensures { MatchOption result (self.old ≡ finite.empty)
+            (λ v. (name : List ℕ) × (finite.get self.old name ≡ Some v) × (self.new ≡ finite.remove self.old name)) }
+    {
+        match self.values.pop_first() {
+            Some((_, value)) => {
+                self.count -= 1;
+                Some(value)
+            }
+            None => None,
         }
     }
 
@@ -166,60 +181,65 @@ impl<'h> Names<'h> {
     // ops are done.
     pub(crate) fn run(
         &mut self,
-        pass: &mut Pass<'h>,
+        pass: &mut StrPass<'h>,
         alloc: Global,
         name: &str,
         ops: &[Op],
     ) -> Result<Option<OpReplies>, OutOfMemory>
-        requires { All IsWellFormedOp ops.now }
-        ensures done { IfOk result (λ found. (results_or_no_name name.now found, self.new) ≡ on_reply self.old name.now ops.now (text_of self.old name.now)) }
+        requires ops { All IsWellFormedOp ops.now }
+        requires sound { IsSound self.old pass.old }
+        ensures done { IfOk result (λ found. (results_or_no_name name.now found, texts_of self.new)
+            ≡ on_reply (texts_of self.old) name.now ops.now (text_of (texts_of self.old) name.now)) }
+        ensures ran { IfOk result (λ found. MatchOption found ((self.new ≡ self.old) × (pass.new ≡ pass.old))
+            (λ replies. Done (command.On name.now ops.now) self.old pass.old self.new pass.new)) }
         ensures shown { IfOk result (λ found. IfSome found (λ replies. All IsShownOp replies)) }
-        ensures in_use { OnErr result (IsTrue (is_in_use self.old name.now)) }
-        ensures left { OnErr result ((n : ℕ) × (self.new ≡ (on_reply self.old name.now (take n ops.now) (text_of self.old name.now)).1)) }
-        ensures pass { pass.new ≡ pass.old }
+        ensures one_heap { pass.new.heap ≡ pass.old.heap }
+        ensures in_use { OnErr result (IsTrue (is_in_use (texts_of self.old) name.now)) }
+        ensures left { OnErr result ((n : ℕ) × (texts_of self.new ≡ (on_reply (texts_of self.old) name.now (take n ops.now) (text_of (texts_of self.old) name.now)).1)) }
     {
-        match self.values.get_mut(name) {
-            Some(value) => {
-                let replies = run_ops(alloc, value, pass, ops, 0)?;
-                Ok(Some(replies))
-            }
-            None => Ok(None),
-        }
+        let Some(value) = self.values.get_mut(name) else {
+            return Ok(None);
+        };
+        let replies = run_ops(alloc, value, pass, ops, 0)?;
+        Ok(Some(replies))
     }
 
-    // A value under the name. The one that it had is released, and the new one is dropped where memory is wanting.
+    // A value under the name. The one that it had comes back, and the new one is dropped where memory is wanting.
     pub(crate) fn put(
         &mut self,
-        pass: &mut Pass<'h>,
         name: String,
         value: Str<'h>,
-    ) -> Result<(), OutOfMemory>
-        requires { IsTrue (has_room self.old (string_bytes name)) }
-        ensures stored { OnOk result (self.new ≡ finite.insert self.old (string_bytes name) value.entry.text) }
+    ) -> Result<Option<Str<'h>>, OutOfMemory>
+        requires { IsTrue (has_room (texts_of self.old) (string_bytes name)) }
+        ensures stored { OnOk result (self.new ≡ finite.insert self.old (string_bytes name) value.entry) }
+        ensures before { IfOk result (λ old. old ≡ finite.get self.old (string_bytes name)) }
         ensures kept { OnErr result (self.new ≡ self.old) }
-        ensures pass { pass.new ≡ pass.old }
     {
         match self.values.insert(name, value)? {
-            Some(replaced) => replaced.release(pass),
-            None => self.count += 1,
+            Some(replaced) => Ok(Some(replaced)),
+            None => {
+                self.count += 1;
+                Ok(None)
+            }
         }
-        Ok(())
     }
 
     // Every value is given up.
-    pub(crate) fn release(self, pass: &mut Pass<'h>)
-        ensures { pass.new ≡ pass.old }
+    pub(crate) fn release(mut self, pass: &mut StrPass<'h>)
+        requires { IsSound self pass.old }
+        ensures did { (es : List Event) × Did es pass.old pass.new }
+        ensures credits { Keeps pass.old (credits_in self.entry) pass.new 0 }
     {
-        let Names { values, count: _ } = self;
-        for value in values.into_values() {
+        'values: while let Some(value) = self.take_any() {
             value.release(pass);
         }
     }
 }
 
 // The value of the empty text. No memory.
-fn empty<'h>(pass: &mut Pass<'h>, alloc: Global) -> Str<'h>
-    ensures { pass.new ≡ pass.old }
+fn empty<'h>(pass: &mut StrPass<'h>, alloc: Global) -> Str<'h>
+    ensures place { result.place ≡ own }
+    ensures pass { pass.new ≡ pass.old }
 {
     match Str::from_utf8(alloc, pass, b"") {
         Ok(value) => value,

@@ -2,6 +2,7 @@
 ghost use Rattle.std.specs.Prelude.{◌≡◌, string_bytes, IsUtf8};
 ghost use Rattle.query_lines.specs.Replies.{IsShown};
 ghost use Rattle.query_session.specs.State as state;
+ghost use Rattle.query_session.specs.Values.{texts_of};
 
 use crate::names::Names;
 use query_lines::{Bytes, Refusal, Reply};
@@ -18,9 +19,9 @@ pub(crate) fn no_name(name: String) -> Reply
 
 // Whether a text may be stored under the name.
 pub(crate) fn has_room(names: &Names, name: &str) -> bool
-    ensures { result ≡ state.has_room names.now name.now }
+    ensures { result ≡ state.has_room (texts_of names.now) name.now }
 {
-    names.get(name).is_some() || names.count() < MAX_NAMES
+    names.has(name) || names.count() < MAX_NAMES
 }
 
 // A name as a text. No memory.

@@ -1,69 +1,91 @@
-use Rattle.std.proofs.Common.{◌≡◌, sym, ap, ◌∙◌, Some, is_some}
-use Rattle.std.specs.Option.{option_map}
+use Rattle.std.proofs.Common.{◌≡◌, Some, None, sym, ap, ◌∙◌}
 use Rattle.std.specs.FinMap as finite
-use Rattle.str_value.specs.Meaning.{Meaning}
-use Rattle.query_session.specs.State.{store}
+use Rattle.query_session.specs.State.{store, text_of, is_in_use}
+use Rattle.query_session.specs.Values.{Values, texts_of}
 use Rattle.query_session.specs.Held.{held}
-use Rattle.query_session.proofs.Held.{held-written, len-same, get-held, in_use}
+use Rattle.query_session.proofs.Sums.{texts-insert}
+use Rattle.query_session.proofs.Held.{get-held, held-written, len-same, text_in_use, no_text, in_use}
+use Rattle.query_session.proofs.Storing.{of-found}
+use Rattle.query_session.proofs.Accounts.{ran-done}
 use Rattle.query_session.proofs.Ran.{whatever, ran, ran-some, ran-none}
 use Rattle.query_session.proofs.names.Names.run.Goals as goal
-use Rattle.query_session.proofs.names.Names.run.Goals.{in-Some+in_ok-replies-in-Some, in-None}
 
-pub invariant_of-self : goal.invariant_of-self
-invariant_of-self c =
-    let v = c.run_ops.new.s in
-    let some = sym c.in-Some.ensures.value in
-    let stored = held-written c.self.inside.values (c.get_mut.follows.lender v) c.args.name.now c.in-Some.value.now v some (c.get_mut.follows.holds v).3 in
-    c.self.invariant ∙ sym (len-same c.self.inside.values (c.get_mut.follows.lender v) c.args.name.now v.text c.in-Some.value.now stored some)
+pub run_ops-requires-clause-heap : goal.run_ops-requires-clause-heap
+run_ops-requires-clause-heap c =
+    let found = ap (λ (x : Values). finite.get x c.args.name.now) (sym c.self.view_is) ∙ (get-held c.self.inside.values c.args.name.now ∙ sym c.in-Some.ensures.value) in
+    of-found c.args.pass.now c.args.self.now c.args.name.now c.in-Some.value.now c.requires.sound.heap found
 
-pub returns-in_err-replies-in-Some-clause-in_use : goal.returns-in_err-replies-in-Some-clause-in_use
-returns-in_err-replies-in-Some-clause-in_use c =
-    whatever c.from_residual.result _ (ap (λ m. is_some (finite.get m c.args.name.now)) (sym c.self.view_is) ∙ ap is_some (in_use c.self.inside.values c.args.name.now c.in-Some.value.now (sym c.in-Some.ensures.value)))
+pub returns-in_default-clause-done : goal.returns-in_default-clause-done
+returns-in_default-clause-done c =
+    let none = ap (λ (x : Values). finite.get x c.args.name.now) (sym c.self.view_is) ∙ (get-held c.self.inside.values c.args.name.now ∙ sym c.in_default.ensures.value) in
+    ran-none (texts_of c.args.self.now) _ c.args.name.now c.args.ops.now (no_text c.args.self.now c.args.name.now none)
+    (ap (λ m. texts_of (held m.entries)) c.get_mut.follows.holds-at-none ∙ ap texts_of c.self.view_is)
 
-pub returns-in_err-replies-in-Some-clause-left : goal.returns-in_err-replies-in-Some-clause-left
-returns-in_err-replies-in-Some-clause-left c =
-    let s = c.args.self.now in
+pub invariant_of-self-in_err-replies : goal.invariant_of-self-in_err-replies
+invariant_of-self-in_err-replies c =
+    let m = c.self.inside.values in
     let name = c.args.name.now in
     let v = c.run_ops.new.s in
+    let n = c.get_mut.follows.lender v in
     let some = sym c.in-Some.ensures.value in
-    let stored = held-written c.self.inside.values (c.get_mut.follows.lender v) name c.in-Some.value.now v some (c.get_mut.follows.holds v).3 in
-    let done = c.in_err-replies-in-Some.ensures.some_first in
+    let stored = held-written m n name c.in-Some.value.now v some (c.get_mut.follows.holds v).3 in
+    c.self.invariant ∙ sym (len-same (held m.entries) (held n.entries) name v c.in-Some.value.now stored (get-held m name ∙ some))
+
+pub returns-in_err-replies-clause-in_use : goal.returns-in_err-replies-clause-in_use
+returns-in_err-replies-clause-in_use c =
+    whatever c.from_residual.result _
+    (ap (λ (m : Values). is_in_use (texts_of m) c.args.name.now) (sym c.self.view_is) ∙ in_use c.self.inside.values c.args.name.now c.in-Some.value.now (sym c.in-Some.ensures.value))
+
+pub returns-in_err-replies-clause-left : goal.returns-in_err-replies-clause-left
+returns-in_err-replies-clause-left c =
+    let m = c.self.inside.values in
+    let old = c.args.self.now in
+    let name = c.args.name.now in
+    let v = c.run_ops.new.s in
+    let n = c.get_mut.follows.lender v in
+    let some = sym c.in-Some.ensures.value in
+    let found = ap (λ (x : Values). finite.get x name) (sym c.self.view_is) ∙ (get-held m name ∙ some) in
+    let stored = held-written m n name c.in-Some.value.now v some (c.get_mut.follows.holds v).3 ∙ ap (λ (x : Values). finite.insert x name v) c.self.view_is in
+    let done = c.in_err-replies.ensures.some_first in
     whatever c.from_residual.result _ (
       done.0,
-      ran-some s _ name c.in-Some.value.now.text c.args.ops.now (done.0)
-          (ap (λ m. finite.get m name) (sym c.self.view_is) ∙ in_use c.self.inside.values name c.in-Some.value.now some)
-          (stored ∙ ap (λ m. finite.insert m name v.text) c.self.view_is ∙ ap (store s name) done.1),
+      ran-some (texts_of old) _ name c.in-Some.value.now.text c.args.ops.now (done.0) (text_in_use old name c.in-Some.value.now found)
+          (ap texts_of stored ∙ (texts-insert old name v ∙ ap (store (texts_of old) name) done.1)),
     )
 
 pub invariant_of-self-2 : goal.invariant_of-self-2
 invariant_of-self-2 c =
-    elim c.match-get_mut.branch [
-      | in-Some+in_ok-replies-in-Some w ↦
-          let v = w.run_ops.new.s in
-          let some = sym w.in-Some.ensures.value in
-          let stored = held-written c.self.inside.values (c.get_mut.follows.lender v) c.args.name.now w.in-Some.value.now v some (c.get_mut.follows.holds v).3 in
-          ap (λ i. i.count) w.self-inside-is ∙ c.self.invariant
-          ∙ sym (ap (λ i. finite.len (held i.values.entries)) w.self-inside-is
-          ∙ len-same c.self.inside.values (c.get_mut.follows.lender v) c.args.name.now v.text w.in-Some.value.now stored some)
-      | in-None w ↦
-          ap (λ i. i.count) w.self-inside-is ∙ c.self.invariant
-          ∙ sym (ap (λ i. finite.len (held i.values.entries)) w.self-inside-is ∙ ap (λ m. finite.len (held m.entries)) c.get_mut.follows.holds-at-none)
-    ]
+    let m = c.self.inside.values in
+    let name = c.args.name.now in
+    let v = c.run_ops.new.s in
+    let n = c.get_mut.follows.lender v in
+    let some = sym c.in-Some.ensures.value in
+    let stored = held-written m n name c.in-Some.value.now v some (c.get_mut.follows.holds v).3 in
+    c.self.invariant ∙ sym (len-same (held m.entries) (held n.entries) name v c.in-Some.value.now stored (get-held m name ∙ some))
 
 pub returns-clause-done : goal.returns-clause-done
 returns-clause-done c =
-    let s = c.args.self.now in
+    let m = c.self.inside.values in
+    let old = c.args.self.now in
     let name = c.args.name.now in
-    let asked = ap (λ m. finite.get m name) (sym c.self.view_is) in
-    elim c.match-get_mut.branch [
-      | in-Some+in_ok-replies-in-Some w ↦
-          let v = w.run_ops.new.s in
-          let some = sym w.in-Some.ensures.value in
-          let stored = held-written c.self.inside.values (c.get_mut.follows.lender v) name w.in-Some.value.now v some (c.get_mut.follows.holds v).3 in
-          rw w.result-is (ran s _ name w.in-Some.value.now.text c.args.ops.now _ (asked ∙ in_use c.self.inside.values name w.in-Some.value.now some) w.in_ok-replies-in-Some.ensures.answers
-          (ap (λ i. held i.values.entries) w.self-inside-is ∙ stored ∙ ap (λ m. finite.insert m name v.text) c.self.view_is ∙ ap (store s name) w.in_ok-replies-in-Some.ensures.text))
-      | in-None w ↦
-          rw w.result-is (ran-none s _ name c.args.ops.now
-          (asked ∙ get-held c.self.inside.values name ∙ ap (option_map (λ (v : Meaning). v.text)) (sym w.in-None.ensures.value))
-          (ap (λ i. held i.values.entries) w.self-inside-is ∙ ap (λ m. held m.entries) c.get_mut.follows.holds-at-none ∙ c.self.view_is))
-    ]
+    let v = c.run_ops.new.s in
+    let n = c.get_mut.follows.lender v in
+    let some = sym c.in-Some.ensures.value in
+    let found = ap (λ (x : Values). finite.get x name) (sym c.self.view_is) ∙ (get-held m name ∙ some) in
+    let stored = held-written m n name c.in-Some.value.now v some (c.get_mut.follows.holds v).3 ∙ ap (λ (x : Values). finite.insert x name v) c.self.view_is in
+    ran (texts_of old) _ name c.in-Some.value.now.text c.args.ops.now _ (text_in_use old name c.in-Some.value.now found) c.in_ok-replies.ensures.answers
+    (ap texts_of stored ∙ (texts-insert old name v ∙ ap (store (texts_of old) name) c.in_ok-replies.ensures.text))
+
+pub returns-clause-ran : goal.returns-clause-ran
+returns-clause-ran c =
+    let m = c.self.inside.values in
+    let old = c.args.self.now in
+    let name = c.args.name.now in
+    let v = c.run_ops.new.s in
+    let n = c.get_mut.follows.lender v in
+    let some = sym c.in-Some.ensures.value in
+    let found = ap (λ (x : Values). finite.get x name) (sym c.self.view_is) ∙ (get-held m name ∙ some) in
+    let stored = held-written m n name c.in-Some.value.now v some (c.get_mut.follows.holds v).3 ∙ ap (λ (x : Values). finite.insert x name v) c.self.view_is in
+    let e = c.in_ok-replies.ensures in
+    ran-done name c.args.ops.now old (held n.entries) c.args.pass.now c.run_ops.new.pass c.in-Some.value.now v c.in_ok-replies.replies c.requires.sound found stored
+    e.text e.answers e.unedited e.published e.credits e.one_heap e.heap e.learned
