@@ -5,3 +5,5 @@ mod Places
 mod Progress
 mod Statuses
 mod Steps
+mod Histories
+mod Kept

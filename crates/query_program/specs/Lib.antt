@@ -8,3 +8,5 @@ pub mod Statuses
 pub mod Reads
 pub mod Stops
 pub mod Writes
+pub mod Whole
+pub mod Default

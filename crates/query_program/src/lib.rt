@@ -11,11 +11,13 @@
 //! | `replies.rt` | the reply to one line, and to all whole lines in the buffer |
 //! | `line_buffer.rt` | the buffer of reads |
 //! | `output.rt` | writing gathered replies |
+//! | `heap.rt` | the heap of the values, and its end |
 //! | `stop.rt`, `limits.rt`, `laws.rt` | why a run ends early, the limits, and their numbers |
 //!
 //! Meaning: `specs/Lines.antt`, `specs/Answers.antt`, `specs/Limits.antt`. Start at `top.rt`.
 #![tactic(auto)]
 
+mod heap;
 pub mod laws;
 mod limits;
 mod line_buffer;
@@ -25,5 +27,5 @@ mod stop;
 mod stream;
 mod top;
 
-pub use limits::{INPUT_LIMIT, LINE_LIMIT};
+pub use limits::{CAPACITY_WORDS, CREDITS, INPUT_LIMIT, LINE_LIMIT, SLOTS};
 pub use top::{Ended, run};

@@ -1,8 +1,10 @@
-ghost use Rattle.std.specs.Prelude.{◌≡◌, ◌+◌, ◌<◌, ◌≤◌, length, ◌++◌, ◌⊎◌, [], false, Some, IfOk, OnOk, IsErrOf};
+ghost use Rattle.std.specs.Prelude.{◌≡◌, ◌+◌, ◌<◌, ◌≤◌, length, ◌++◌, ◌⊎◌, [], Some, IfOk, OnOk, IsErrOf};
 ghost use Rattle.memchr.specs.Find.{IsFirstByte, is_byte};
 ghost use Rattle.outside.specs.Bytes.{AppendsPrefix};
 ghost use Rattle.outside.specs.Causes.{Rose};
 ghost use Rattle.query_lines.specs.Replies.{IsShown};
+ghost use Rattle.query_session.specs.Values.{texts_of};
+ghost use Rattle.query_program.specs.Whole.{IsWhole};
 ghost use Rattle.query_program.specs.Answers.{answer, answer_line, answers_from, state_after_line};
 ghost use Rattle.query_program.specs.Lines.{whole_lines};
 ghost use Rattle.query_program.specs.Writes.{IsWriteStopOf, Answered, AnsweredFirst};
@@ -32,14 +34,15 @@ pub(crate) fn answer_lines<'h, R: Threads + Sync, K: Sink, G: Gate>(
 ) -> Result<(), Stop>
     requires empty { gathered.old.items ≡ [] }
     requires short { length buffer.old.bytes ≤ LINE_LIMIT + 1 }
-    requires whole { session.old.failed ≡ false }
-    ensures answered { OnOk result (Answered session.old.state session.new.state buffer.old.bytes buffer.new.bytes (K.written sink.old) (K.written sink.new)) }
+    requires whole { IsWhole session.old }
+    ensures answered { OnOk result (Answered (texts_of session.old.values) (texts_of session.new.values) buffer.old.bytes buffer.new.bytes (K.written sink.old) (K.written sink.new)) }
     ensures empty { OnOk result (gathered.new.items ≡ []) }
-    ensures begun { AppendsPrefix (K.written sink.old) (K.written sink.new) (answers_from session.old.state (whole_lines buffer.old.bytes)) }
+    ensures begun { AppendsPrefix (K.written sink.old) (K.written sink.new) (answers_from (texts_of session.old.values) (whole_lines buffer.old.bytes)) }
     ensures stops { IsWriteStopOf result }
     ensures cause { IsErrOf result Stop.WriteFault → Rose (K.faults sink.old) (K.faults sink.new) }
     ensures still { IsErrOf result Stop.WriteFault ⊎ (K.faults sink.new ≡ K.faults sink.old) }
-    ensures whole { IsErrOf result Stop.OutOfMemory ⊎ (session.new.failed ≡ false) }
+    ensures one_heap { session.new.pass.heap ≡ session.old.pass.heap }
+    ensures whole { IsErrOf result Stop.OutOfMemory ⊎ IsWhole session.new }
 {
     'lines: while let Some(length) = buffer.first_line() {
         answer_first(rt, alloc, gate, session, buffer, length, gathered)?;
@@ -60,9 +63,10 @@ fn answer_first<'h, R: Threads + Sync, G: Gate>(
 ) -> Result<(), OutOfMemory>
     requires first { IsFirstByte (is_byte 10) buffer.old.bytes (Some line_length) }
     requires short { length buffer.old.bytes ≤ LINE_LIMIT + 1 }
-    requires whole { session.old.failed ≡ false }
-    ensures whole { OnOk result (session.new.failed ≡ false) }
-    ensures answered { OnOk result (AnsweredFirst session.old.state session.new.state buffer.old.bytes buffer.new.bytes gathered.old.items gathered.new.items) }
+    requires whole { IsWhole session.old }
+    ensures one_heap { session.new.pass.heap ≡ session.old.pass.heap }
+    ensures whole { OnOk result (IsWhole session.new) }
+    ensures answered { OnOk result (AnsweredFirst (texts_of session.old.values) (texts_of session.new.values) buffer.old.bytes buffer.new.bytes gathered.old.items gathered.new.items) }
 {
     answer_line(
         rt,
@@ -86,11 +90,12 @@ pub(crate) fn answer_line<'h, R: Threads + Sync, G: Gate>(
     line: &[u8],
     gathered: &mut Vec<u8>,
 ) -> Result<(), OutOfMemory>
-    requires whole { session.old.failed ≡ false }
+    requires whole { IsWhole session.old }
     requires short { length line.now ≤ LINE_LIMIT }
-    ensures reply { OnOk result (gathered.new.items ≡ gathered.old.items ++ answer session.old.state line.now) }
-    ensures state { OnOk result (session.new.state ≡ state_after_line session.old.state line.now) }
-    ensures whole { OnOk result (session.new.failed ≡ false) }
+    ensures reply { OnOk result (gathered.new.items ≡ gathered.old.items ++ answer (texts_of session.old.values) line.now) }
+    ensures state { OnOk result ((texts_of session.new.values) ≡ state_after_line (texts_of session.old.values) line.now) }
+    ensures one_heap { session.new.pass.heap ≡ session.old.pass.heap }
+    ensures whole { OnOk result (IsWhole session.new) }
 {
     let reply = reply_to(rt, alloc, gate, session, line)?;
     append_reply(alloc, gathered, &reply)?;
@@ -107,11 +112,12 @@ fn reply_to<'h, R: Threads + Sync, G: Gate>(
     session: &mut Session<'h>,
     line: &[u8],
 ) -> Result<Reply, OutOfMemory>
-    requires whole { session.old.failed ≡ false }
+    requires whole { IsWhole session.old }
     requires short { length line.now ≤ LINE_LIMIT }
-    ensures reply { IfOk result (λ r. (r, session.new.state) ≡ answer_line session.old.state line.now) }
+    ensures reply { IfOk result (λ r. (r, (texts_of session.new.values)) ≡ answer_line (texts_of session.old.values) line.now) }
     ensures shown { IfOk result IsShown }
-    ensures whole { OnOk result (session.new.failed ≡ false) }
+    ensures one_heap { session.new.pass.heap ≡ session.old.pass.heap }
+    ensures whole { OnOk result (IsWhole session.new) }
 {
     match read_line(alloc, line) {
         Ok(command) => session.step(alloc, rt, command, gate),

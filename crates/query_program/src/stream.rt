@@ -1,7 +1,9 @@
-ghost use Rattle.std.specs.Prelude.{◌≡◌, ◌<◌, ◌≤◌, [], ◌∷◌, ◌⊎◌, false, length, IfOk, IfSome, OnOk, OnErr, IsErrOf};
+ghost use Rattle.std.specs.Prelude.{◌≡◌, ◌<◌, ◌≤◌, [], ◌∷◌, ◌⊎◌, length, IfOk, IfSome, OnOk, OnErr, IsErrOf};
 ghost use Rattle.std.specs.Io.KnownBytes.{Appends, Keeps};
 ghost use Rattle.outside.specs.Bytes.{AppendsPrefix};
 ghost use Rattle.outside.specs.Causes.{Rose};
+ghost use Rattle.query_session.specs.Values.{texts_of};
+ghost use Rattle.query_program.specs.Whole.{IsWhole};
 ghost use Rattle.query_program.specs.Answers.{answers_from};
 ghost use Rattle.query_program.specs.Lines.{lines, less_empty_end};
 ghost use Rattle.query_program.specs.Ends.{Ends, Probed, limit_stop};
@@ -29,13 +31,14 @@ pub(crate) fn answer_stream<'h, R: Threads + Sync, S: Source, K: Sink, G: Gate>(
     sink: &mut K,
     gate: &G,
 ) -> Result<(), Stop>
-    requires { session.old.failed ≡ false }
-    ensures ends { IfSome (S.left source.old) (Ends session.old.state (S.left source.new) (K.written sink.old) (K.written sink.new) result) }
+    requires { IsWhole session.old }
+    ensures ends { IfSome (S.left source.old) (Ends (texts_of session.old.values) (S.left source.new) (K.written sink.old) (K.written sink.new) result) }
     ensures read { IsErrOf result Stop.ReadFault → Rose (S.faults source.old) (S.faults source.new) }
     ensures write { IsErrOf result Stop.WriteFault → Rose (K.faults sink.old) (K.faults sink.new) }
     ensures source_still { IsErrOf result Stop.ReadFault ⊎ (S.faults source.new ≡ S.faults source.old) }
     ensures sink_still { IsErrOf result Stop.WriteFault ⊎ (K.faults sink.new ≡ K.faults sink.old) }
-    ensures whole { IsErrOf result Stop.OutOfMemory ⊎ (session.new.failed ≡ false) }
+    ensures one_heap { session.new.pass.heap ≡ session.old.pass.heap }
+    ensures whole { IsErrOf result Stop.OutOfMemory ⊎ IsWhole session.new }
 {
     let mut buffer = LineBuffer::new(alloc)?;
     let mut gathered = Vec::new(alloc);
@@ -69,13 +72,14 @@ fn answer_last<'h, R: Threads + Sync, K: Sink, G: Gate>(
 ) -> Result<(), Stop>
     requires empty { gathered.old.items ≡ [] }
     requires short { length buffer.now.bytes ≤ LINE_LIMIT }
-    requires whole { session.old.failed ≡ false }
-    ensures answered { OnOk result (Appends (K.written sink.old) (K.written sink.new) (answers_from session.old.state (less_empty_end (buffer.now.bytes ∷ [])))) }
-    ensures begun { AppendsPrefix (K.written sink.old) (K.written sink.new) (answers_from session.old.state (less_empty_end (buffer.now.bytes ∷ []))) }
+    requires whole { IsWhole session.old }
+    ensures answered { OnOk result (Appends (K.written sink.old) (K.written sink.new) (answers_from (texts_of session.old.values) (less_empty_end (buffer.now.bytes ∷ [])))) }
+    ensures begun { AppendsPrefix (K.written sink.old) (K.written sink.new) (answers_from (texts_of session.old.values) (less_empty_end (buffer.now.bytes ∷ []))) }
     ensures stops { IsWriteStopOf result }
     ensures cause { IsErrOf result Stop.WriteFault → Rose (K.faults sink.old) (K.faults sink.new) }
     ensures still { IsErrOf result Stop.WriteFault ⊎ (K.faults sink.new ≡ K.faults sink.old) }
-    ensures whole { IsErrOf result Stop.OutOfMemory ⊎ (session.new.failed ≡ false) }
+    ensures one_heap { session.new.pass.heap ≡ session.old.pass.heap }
+    ensures whole { IsErrOf result Stop.OutOfMemory ⊎ IsWhole session.new }
 {
     if buffer.len() == 0 {
         return Ok(());

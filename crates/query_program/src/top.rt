@@ -1,26 +1,42 @@
-ghost use Rattle.std.specs.Prelude.{◌≡◌, ◌≢◌, ◌↔◌, ◌⊎◌, [], IfSome, IsErrOf};
+ghost use Rattle.std.specs.Prelude.{◌≡◌, ◌≢◌, ◌↔◌, ◌⊎◌, [], IsSome, IfSome, IsErrOf};
+ghost use Rattle.crumbs.specs.Fitting.{IsCrumbList};
+ghost use Rattle.slot_table.specs.Owners as owners;
 ghost use Rattle.std.specs.Io.KnownBytes.{Appends, IsAtEnd};
 ghost use Rattle.outside.specs.Bytes.{AppendsPrefix};
 ghost use Rattle.outside.specs.Causes.{Rose};
 ghost use Rattle.query_program.specs.Answers.{answers, empty};
+ghost use Rattle.query_program.specs.Default.{default_layout};
 ghost use Rattle.query_program.specs.Ends.{Ends, AnsweredWhole, AnsweredPart, EndsByLine, EndsByInput, TookFew};
 ghost use Rattle.query_program.specs.Limits.{HasLongLine, HasTooManyBytes, IsWithin};
 ghost use Rattle.query_program.specs.Statuses.{IsStatus, IsUnhindered, status_of_end};
 
+use crate::heap::{ended, opened};
 use crate::stop::Stop;
 use crate::stream::answer_stream;
 use outside::{Gate, Sink, Source};
 use query_session::Session;
+use slot_table::{Closed, Whole};
 use std::alloc::Global;
 use std::thread::Threads;
-use str_value::Pass;
+use str_value::{StrCrumbs, StrPass};
 use text_spec::TextList;
 
 /// How a run ended.
-#[derive(Clone, Copy, Debug, PartialEq, Eq)]
+#[derive(Drop)]
 pub struct Ended {
     /// The status, as `run` lists them.
     pub status: u8,
+    /// The heap that the values stood in, as it was closed, with its whole history.
+    pub history: Option<Closed<StrCrumbs>>,
+}
+
+/// How the lines of a source were answered.
+#[derive(Drop)]
+struct Answered {
+    /// Why they were not all answered, if they were not.
+    end: Result<(), Stop>,
+    /// The closed heap.
+    history: Option<Closed<StrCrumbs>>,
 }
 
 /// Answers each line of the source with one line to the sink, until the source ends.
@@ -39,7 +55,8 @@ pub struct Ended {
 ///
 /// The run ends at the first of these that it meets, and on one byte at 6 before 7: at 3, 4 and 5 what was read keeps both
 /// limits, and no run reads more than one byte past the limit of the input. What is said of 3 and above of the bytes holds
-/// where source and sink tell theirs. Time linear in the input and the replies; memory for the texts, one line and one reply.
+/// where source and sink tell theirs. The values stand in a heap of the run's own, of 256 slots with 8,192 words each, 4,096 credits and
+/// four literals, which is closed at the end: at a status other than 2 and 5 its history comes back. Time linear in the input and the replies; memory for the texts, one line and one reply.
 pub fn run<R: Threads + Sync, S: Source, K: Sink, G: Gate>(
     rt: &R,
     alloc: Global,
@@ -77,13 +94,22 @@ pub fn run<R: Threads + Sync, S: Source, K: Sink, G: Gate>(
 
     // However it ended.
     ensures few { IfSome (S.left source.old) (λ input. TookFew input (S.left source.new)) }
+
+    // The heap's history: legal, each event once, and every slot idle at its end.
+    ensures history { IsSome result.history ↔ ((result.status ≢ 2) × (result.status ≢ 5)) }
+    ensures layout { IfSome result.history (λ h. h.layout ≡ default_layout) }
+    ensures legal { IfSome result.history (λ h. owners.Ends (IsCrumbList 64) h) }
 {
     if words.len() != 0 {
-        return Ended { status: 2 };
+        return Ended {
+            status: 2,
+            history: None,
+        };
     }
-    let end = answer_input(rt, alloc, source, sink, gate);
+    let Answered { end, history } = answer_input(rt, alloc, source, sink, gate);
     Ended {
         status: status_of(end),
+        history,
     }
 }
 
@@ -97,29 +123,65 @@ fn status_of(end: Result<(), Stop>) -> u8
     }
 }
 
-/// Answers the source with a session of its own, whose values are released at the end.
+/// Answers the source over a heap of its own, which is closed then.
 fn answer_input<R: Threads + Sync, S: Source, K: Sink, G: Gate>(
     rt: &R,
     alloc: Global,
     source: &mut S,
     sink: &mut K,
     gate: &G,
-) -> Result<(), Stop>
-    ensures ends { IfSome (S.left source.old) (Ends empty (S.left source.new) (K.written sink.old) (K.written sink.new) result) }
-    ensures read { IsErrOf result Stop.ReadFault → Rose (S.faults source.old) (S.faults source.new) }
-    ensures write { IsErrOf result Stop.WriteFault → Rose (K.faults sink.old) (K.faults sink.new) }
-    ensures source_still { IsErrOf result Stop.ReadFault ⊎ (S.faults source.new ≡ S.faults source.old) }
-    ensures sink_still { IsErrOf result Stop.WriteFault ⊎ (K.faults sink.new ≡ K.faults sink.old) }
+) -> Answered
+    ensures ends { IfSome (S.left source.old) (Ends empty (S.left source.new) (K.written sink.old) (K.written sink.new) result.end) }
+    ensures read { IsErrOf result.end Stop.ReadFault → Rose (S.faults source.old) (S.faults source.new) }
+    ensures write { IsErrOf result.end Stop.WriteFault → Rose (K.faults sink.old) (K.faults sink.new) }
+    ensures source_still { IsErrOf result.end Stop.ReadFault ⊎ (S.faults source.new ≡ S.faults source.old) }
+    ensures sink_still { IsErrOf result.end Stop.WriteFault ⊎ (K.faults sink.new ≡ K.faults sink.old) }
+    ensures history { IsSome result.history ↔ (IsErrOf result.end Stop.OutOfMemory → ⊥) }
+    ensures layout { IfSome result.history (λ h. h.layout ≡ default_layout) }
+    ensures legal { IfSome result.history (λ h. owners.Ends (IsCrumbList 64) h) }
 {
-    let mut session = Session::new(alloc, Pass::none(), 1)?;
-    let end = answer_stream(rt, alloc, &mut session, source, sink, gate);
-    match end {
-        Err(Stop::OutOfMemory) => drop(session),
-        Ok(()) => drop(session.end()),
-        Err(Stop::ReadFault) => drop(session.end()),
-        Err(Stop::WriteFault) => drop(session.end()),
-        Err(Stop::LineTooLong) => drop(session.end()),
-        Err(Stop::InputTooLong) => drop(session.end()),
+    let Some((heap, whole)) = opened(alloc) else {
+        return Answered {
+            end: Err(Stop::OutOfMemory),
+            history: None,
+        };
+    };
+    let (end, whole) = answer_over(rt, alloc, heap.pass(whole), source, sink, gate);
+    let Some(whole) = whole else {
+        return Answered { end, history: None };
+    };
+    Answered {
+        end,
+        history: Some(heap.close(whole)),
     }
-    end
+}
+
+/// Answers the source with a session of its own over a whole pass, whose values are released at the end. Where memory was wanting, the pass
+/// is lost.
+fn answer_over<'h, R: Threads + Sync, S: Source, K: Sink, G: Gate>(
+    rt: &R,
+    alloc: Global,
+    pass: StrPass<'h>,
+    source: &mut S,
+    sink: &mut K,
+    gate: &G,
+) -> (Result<(), Stop>, Option<Whole<StrCrumbs>>)
+    requires { pass.credits ≡ pass.heap.layout.credits }
+    ensures ends { IfSome (S.left source.old) (Ends empty (S.left source.new) (K.written sink.old) (K.written sink.new) result.0) }
+    ensures read { IsErrOf result.0 Stop.ReadFault → Rose (S.faults source.old) (S.faults source.new) }
+    ensures write { IsErrOf result.0 Stop.WriteFault → Rose (K.faults sink.old) (K.faults sink.new) }
+    ensures source_still { IsErrOf result.0 Stop.ReadFault ⊎ (S.faults source.new ≡ S.faults source.old) }
+    ensures sink_still { IsErrOf result.0 Stop.WriteFault ⊎ (K.faults sink.new ≡ K.faults sink.old) }
+    ensures whole { IsSome result.1 ↔ (IsErrOf result.0 Stop.OutOfMemory → ⊥) }
+    ensures heap { IfSome result.1 (λ w. w.heap ≡ pass.entry.heap) }
+{
+    let Ok(mut session) = Session::new(alloc, pass, 1) else {
+        return (Err(Stop::OutOfMemory), None);
+    };
+    let end = answer_stream(rt, alloc, &mut session, source, sink, gate);
+    if let Err(Stop::OutOfMemory) = end {
+        drop(session);
+        return (end, None);
+    }
+    (end, Some(ended(session.end())))
 }

@@ -4,6 +4,7 @@ use Rattle.outside.specs.Bytes.{AppendsPrefix}
 use Rattle.std.proofs.Common.{append-nil}
 use Rattle.std.specs.Prelude.{IsErrAnd}
 use Rattle.std.proofs.lemmas.List.{nil_from_length}
+use Rattle.query_session.specs.Values.{texts_of}
 use Rattle.query_program.specs.Answers.{answers_from}
 use Rattle.query_program.specs.Lines.{less_empty_end, whole_lines}
 use Rattle.query_program.specs.Ends.{Ends, Probed, limit_stop}
@@ -27,7 +28,7 @@ error-of (Err e) stop h = ap Err h
 pub returns-in_err-count-clause-ends : goal.returns-in_err-count-clause-ends
 returns-in_err-count-clause-ends g c =
     let stop = c.in_err-count.field-0.0 in
-    subst (λ r. IfSome (g.S.Source.left c.args.source.now) (Ends c.args.session.now.state (g.S.Source.left c.fill.new.source) (g.K.Sink.written c.args.sink.now) (g.K.Sink.written c.reads.sink) r))
+    subst (λ r. IfSome (g.S.Source.left c.args.source.now) (Ends (texts_of c.args.session.now.values) (g.S.Source.left c.fill.new.source) (g.K.Sink.written c.args.sink.now) (g.K.Sink.written c.reads.sink) r))
     (sym (error-of c.from_residual-in_err-count.result stop c.from_residual-in_err-count.ensures.1))
     (ends-read _ _ _ _ _ _ _ _ c.reads.invariant.progress (g.S.Source.left c.fill.new.source) stop c.in_err-count.ensures.kept.1 c.in_err-count.ensures.stops c.reads.invariant.within c.reads.invariant.fits)
 
@@ -36,17 +37,17 @@ returns-then-count-eq0-clause-ends g c =
     let i = c.reads.invariant in
     let n = nothing-read _ _ _ _ _ _ c.in_ok-count.ensures.filled (search rules) in
     ends-last _ _ _ _ _ _ _ _ i.progress (g.S.Source.left c.fill.new.source) (g.K.Sink.written c.answer_last.new.sink) c.answer_last.result n.0 n.1 i.within i.fits
-    (subst (λ xs. AppendsPrefix (g.K.Sink.written c.reads.sink) (g.K.Sink.written c.answer_last.new.sink) (answers_from c.reads.session.state (less_empty_end (xs ∷ [])))) n.2 c.answer_last.ensures.begun)
-    (subst (λ xs. LastEnd c.answer_last.result (Appends (g.K.Sink.written c.reads.sink) (g.K.Sink.written c.answer_last.new.sink) (answers_from c.reads.session.state (less_empty_end (xs ∷ []))))) n.2 (last-end _ c.answer_last.result c.answer_last.ensures.answered c.answer_last.ensures.stops))
+    (subst (λ xs. AppendsPrefix (g.K.Sink.written c.reads.sink) (g.K.Sink.written c.answer_last.new.sink) (answers_from (texts_of c.reads.session.values) (less_empty_end (xs ∷ [])))) n.2 c.answer_last.ensures.begun)
+    (subst (λ xs. LastEnd c.answer_last.result (Appends (g.K.Sink.written c.reads.sink) (g.K.Sink.written c.answer_last.new.sink) (answers_from (texts_of c.reads.session.values) (less_empty_end (xs ∷ []))))) n.2 (last-end _ c.answer_last.result c.answer_last.ensures.answered c.answer_last.ensures.stops))
 
 pub returns-in_err-answer_lines-clause-ends : goal.returns-in_err-answer_lines-clause-ends
 returns-in_err-answer_lines-clause-ends g c =
     let stop = c.in_err-answer_lines.field-0.0 in
-    subst (λ r. IfSome (g.S.Source.left c.args.source.now) (Ends c.args.session.now.state (g.S.Source.left c.fill.new.source) (g.K.Sink.written c.args.sink.now) (g.K.Sink.written c.answer_lines.new.sink) r))
+    subst (λ r. IfSome (g.S.Source.left c.args.source.now) (Ends (texts_of c.args.session.now.values) (g.S.Source.left c.fill.new.source) (g.K.Sink.written c.args.sink.now) (g.K.Sink.written c.answer_lines.new.sink) r))
     (sym (error-of c.from_residual-in_err-answer_lines.result stop c.from_residual-in_err-answer_lines.ensures.1))
     (ends-write _ _ _ _ _ _ _ _ c.reads.invariant.progress (g.S.Source.left c.fill.new.source) (g.K.Sink.written c.answer_lines.new.sink) c.fill.new.self.bytes _ _ stop
     c.in_ok-count.ensures.filled
-    (subst (λ xs. AppendsPrefix (g.K.Sink.written c.reads.sink) (g.K.Sink.written c.answer_lines.new.sink) (answers_from c.reads.session.state (whole_lines xs)))
+    (subst (λ xs. AppendsPrefix (g.K.Sink.written c.reads.sink) (g.K.Sink.written c.answer_lines.new.sink) (answers_from (texts_of c.reads.session.values) (whole_lines xs)))
     (ap (λ b. b.bytes) c.is_full_of_one_line.ensures.same) c.in_err-answer_lines.ensures.begun)
     c.in_err-answer_lines.ensures.stops
     (omega (arith, c.reads.invariant.within, c.in_ok-count.ensures.filled.most_)) c.in_ok-count.ensures.bound (c.is_full_of_one_line.ensures.short (search rules)))
@@ -55,23 +56,24 @@ pub returns-then-is_full_of_one_line-clause-ends : goal.returns-then-is_full_of_
 returns-then-is_full_of_one_line-clause-ends g c =
     let i = c.reads.invariant in
     let long = c.is_full_of_one_line.ensures.long (search rules) in
-    let p = progress-on _ _ _ _ _ _ _ _ i.progress c.reads.session.state (g.S.Source.left c.fill.new.source) (g.K.Sink.written c.reads.sink) c.fill.new.self.bytes c.fill.new.self.bytes _ _
-    c.in_ok-count.ensures.filled c.in_ok-count.ensures.bound (answered-none c.reads.session.state c.fill.new.self.bytes (g.K.Sink.written c.reads.sink) long.1) in
+    let p = progress-on _ _ _ _ _ _ _ _ i.progress (texts_of c.reads.session.values) (g.S.Source.left c.fill.new.source) (g.K.Sink.written c.reads.sink) c.fill.new.self.bytes c.fill.new.self.bytes _ _
+    c.in_ok-count.ensures.filled c.in_ok-count.ensures.bound (answered-none (texts_of c.reads.session.values) c.fill.new.self.bytes (g.K.Sink.written c.reads.sink) long.1) in
     ends-line _ _ _ _ _ _ _ _ p (search rules) long.0
 
 pub reads-preserved : goal.reads-preserved
 reads-preserved g c =
     let i = c.reads.invariant in
     let same = ap (λ b. b.bytes) c.is_full_of_one_line.ensures.same in
-    let answered = subst (λ xs. Answered c.reads.session.state c.answer_lines.new.session.state xs c.answer_lines.new.buffer.bytes (g.K.Sink.written c.reads.sink) (g.K.Sink.written c.answer_lines.new.sink))
+    let answered = subst (λ xs. Answered (texts_of c.reads.session.values) (texts_of c.answer_lines.new.session.values) xs c.answer_lines.new.buffer.bytes (g.K.Sink.written c.reads.sink) (g.K.Sink.written c.answer_lines.new.sink))
     same c.in_ok-answer_lines.ensures.answered in
     record {
-      progress = progress-on _ _ _ _ _ _ _ _ i.progress c.answer_lines.new.session.state (g.S.Source.left c.fill.new.source) (g.K.Sink.written c.answer_lines.new.sink) c.fill.new.self.bytes c.answer_lines.new.buffer.bytes _ _
+      progress = progress-on _ _ _ _ _ _ _ _ i.progress (texts_of c.answer_lines.new.session.values) (g.S.Source.left c.fill.new.source) (g.K.Sink.written c.answer_lines.new.sink) c.fill.new.self.bytes c.answer_lines.new.buffer.bytes _ _
           c.in_ok-count.ensures.filled c.in_ok-count.ensures.bound answered;
       within = search rules;
       fits = omega (arith, ap length answered.rest, c.is_full_of_one_line.ensures.short (search rules));
       empty = search rules;
       whole = search rules;
+      heap = search rules;
       source_still = search rules;
       sink_still = search rules;
     }
@@ -79,7 +81,7 @@ reads-preserved g c =
 pub returns-in_err-read_one-clause-ends : goal.returns-in_err-read_one-clause-ends
 returns-in_err-read_one-clause-ends g c =
     let stop = c.in_err-read_one.field-0.0 in
-    subst (λ r. IfSome (g.S.Source.left c.args.source.now) (Ends c.args.session.now.state (g.S.Source.left c.read_one.new.source) (g.K.Sink.written c.args.sink.now) (g.K.Sink.written c.reads.sink) r))
+    subst (λ r. IfSome (g.S.Source.left c.args.source.now) (Ends (texts_of c.args.session.now.values) (g.S.Source.left c.read_one.new.source) (g.K.Sink.written c.args.sink.now) (g.K.Sink.written c.reads.sink) r))
     (sym (error-of c.from_residual-in_err-read_one.result stop c.from_residual-in_err-read_one.ensures.1))
     (ends-read _ _ _ _ _ _ _ _ c.reads.invariant.progress (g.S.Source.left c.read_one.new.source) stop c.in_err-read_one.ensures.kept c.in_err-read_one.ensures.stops c.reads.invariant.within c.reads.invariant.fits)
 
@@ -95,5 +97,5 @@ returns-clause-ends g c =
     let i = c.reads.invariant in
     let r : Probed (g.S.Source.left c.reads.source) (g.S.Source.left c.read_one.new.source) (Some c.in-Some.byte) = search rules in
     let is : c.limit_passed.result ≡ limit_stop (length c.reads.buffer.bytes) c.in-Some.byte = search rules in
-    subst (λ s. IfSome (g.S.Source.left c.args.source.now) (Ends c.args.session.now.state (g.S.Source.left c.read_one.new.source) (g.K.Sink.written c.args.sink.now) (g.K.Sink.written c.reads.sink) (Err s))) (sym is)
+    subst (λ s. IfSome (g.S.Source.left c.args.source.now) (Ends (texts_of c.args.session.now.values) (g.S.Source.left c.read_one.new.source) (g.K.Sink.written c.args.sink.now) (g.K.Sink.written c.reads.sink) (Err s))) (sym is)
     (ends-limit _ _ _ _ _ _ _ _ i.progress (g.S.Source.left c.read_one.new.source) c.in-Some.byte r (search rules) i.fits)
