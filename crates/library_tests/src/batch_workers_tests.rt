@@ -1,13 +1,17 @@
 //! What no clause says: that ops find memory, and what they answer at texts written out by hand, whichever storage a text has.
-ghost use Rattle.std.specs.Prelude.{◌≤◌, All, IfOk};
+ghost use Rattle.std.specs.Prelude.{◌≡◌, ◌≤◌, All, IfOk};
 ghost use Rattle.query_lines.specs.WellFormed.{IsWellFormedOp};
+ghost use Rattle.str_value.specs.Meaning.{OfHeap};
 
+use crate::heaps::{SLOTS, heap_of, whole};
 use batch_workers::run_ops;
+use object_words::Form;
 use query_lines::{Command, Ops, Reply, read_line, reply_text};
 use std::alloc::Global;
+use std::process::Abort;
 use std::test::Fail;
-use str_value::{Pass, Str};
-use text_spec::OutOfMemory;
+use str_value::{MakeError, Str, StrPass};
+use value_heaps::{closed, ended};
 use word_units::Text;
 
 /// The ops of the list in a line.
@@ -26,19 +30,71 @@ fn ops_of(alloc: Global, list: &str) -> Result<Ops, Fail>
 }
 
 /// The text of the answers to ops.
-fn answers(alloc: Global, value: &mut Str, list: &str, spent: u64) -> Result<Vec<u8>, Fail>
-    requires { spent ≤ 16777216 }
+fn answers<'h>(
+    alloc: Global,
+    value: &mut Str<'h>,
+    pass: &mut StrPass<'h>,
+    list: &str,
+    spent: u64,
+) -> Result<Vec<u8>, Fail>
+    requires within { spent ≤ 16777216 }
+    requires heap { OfHeap pass.old value.old.place }
+    ensures one_heap { pass.new.heap ≡ pass.old.heap }
+    ensures heap { OfHeap pass.new value.new.place }
 {
     let ops = ops_of(alloc, list)?;
-    let replies = run_ops(alloc, value, &mut Pass::none(), ops.as_slice(), spent)?;
+    let replies = run_ops(alloc, value, pass, ops.as_slice(), spent)?;
     let text = reply_text(alloc, &Reply::Results(replies))?;
     Ok(text)
 }
 
-/// The UTF-8 of a whole value.
-fn text_of(alloc: Global, value: &Str) -> Result<Vec<u8>, OutOfMemory> {
-    let (low, high) = (value.low(), value.high());
-    value.copy_utf8(alloc, low, high)
+/// What a value is made of.
+#[derive(Clone, Copy)]
+enum Source<'a> {
+    Utf8(&'a [u8]),
+    Utf16(&'a [u16]),
+}
+
+fn value_of<'h>(alloc: Global, pass: &mut StrPass<'h>, source: Source) -> Result<Str<'h>, MakeError>
+    ensures one_heap { pass.new.heap ≡ pass.old.heap }
+    ensures heap { IfOk result (λ s. OfHeap pass.new s.place) }
+{
+    match source {
+        Source::Utf8(bytes) => Str::from_utf8(alloc, pass, bytes),
+        Source::Utf16(units) => Str::from_utf16(alloc, pass, units),
+    }
+}
+
+/// Ops, their answers, and the text afterwards where it is asked for.
+type Row<'a> = (&'a str, &'a str, Option<&'a str>);
+
+/// Ops on a value in a heap with so many slots. All slots are idle in the end.
+#[tactic(auto, using(value_heaps::proofs::Moving::of_heap_moves))]
+fn ops_are(
+    rt: &impl Abort,
+    alloc: Global,
+    slots: u32,
+    source: Source,
+    row: Row,
+    spent: u64,
+) -> Result<(), Fail>
+    requires { spent ≤ 16777216 }
+{
+    let (list, wanted, after) = row;
+    let (heap, all) = heap_of(rt, alloc, slots)?;
+    let mut pass = heap.pass(all);
+    let mut value = value_of(alloc, &mut pass, source)?;
+    let got = answers(alloc, &mut value, &mut pass, list, spent)?;
+    assert_eq!(rt; got.as_slice(), wanted.as_bytes(), "{list}");
+    let left = whole(alloc, &mut value)?;
+    if let Some(text) = after {
+        assert_eq!(rt; left.as_slice(), text.as_bytes(), "after {list}");
+    }
+    value.release(&mut pass);
+    let all = ended(pass).expect(rt, "something is still out");
+    let (slots, idle) = closed(heap, all);
+    assert_eq!(rt; slots, idle, "slots and idle slots");
+    Ok(())
 }
 
 #[test]
@@ -116,14 +172,12 @@ fn ops_get_the_answers_worked_out_by_hand(rt: HostRuntime) -> Result<(), Fail> {
     ];
     for (text, list, wanted, after) in rows {
         let units = text.encode_utf16().collect::<Vec<u16>>(alloc)?;
-        let of_bytes = Str::from_utf8(alloc, &mut Pass::none(), text.as_bytes())?;
-        let of_units = Str::from_utf16(alloc, &mut Pass::none(), units.as_slice())?;
-        for mut value in [of_bytes, of_units] {
-            let got = answers(alloc, &mut value, list, 0)?;
-            assert_eq!(rt; got.as_slice(), wanted.as_bytes(), "{list} on {text}");
-            let left = text_of(alloc, &value)?;
-            assert_eq!(rt; left.as_slice(), after.as_bytes(), "after {list} on {text}");
-            value.release(&mut Pass::none());
+        let row = (list, wanted, Some(after));
+        for slots in SLOTS {
+            let bytes = Source::Utf8(text.as_bytes());
+            ops_are(&rt, alloc, slots, bytes, row, 0)?;
+            let units = Source::Utf16(units.as_slice());
+            ops_are(&rt, alloc, slots, units, row, 0)?;
         }
     }
     Ok(())
@@ -132,16 +186,21 @@ fn ops_get_the_answers_worked_out_by_hand(rt: HostRuntime) -> Result<(), Fail> {
 #[test]
 fn lone_surrogates_are_repaired_by_the_first_edit(rt: HostRuntime) -> Result<(), Fail> {
     let alloc = rt.alloc();
-    let mut value = Str::from_utf16(alloc, &mut Pass::none(), &[0x61, 0xD800, 0xD83D, 0xDE00])?;
+    let units = [0x61, 0xD800, 0xD83D, 0xDE00];
     let list =
         r#"[{"text":true},{"edit":[9,9],"with":"x"},{"edit":[3,4],"with":"x"},{"slice":[1,2]},{"edit":[1,2],"with":""}]"#;
     let wanted =
         "{\"results\":[{\"text\":\"a\u{FFFD}😀\"},{\"error\":\"out of bounds\",\"utf16\":4},{\"scalars\":3,\"utf16\":3,\"utf8\":5},{\"text\":\"\u{FFFD}\"},{\"scalars\":2,\"utf16\":2,\"utf8\":2}]}";
-    let got = answers(alloc, &mut value, list, 0)?;
-    assert_eq!(rt; got.as_slice(), wanted.as_bytes(), "{list}");
-    let left = text_of(alloc, &value)?;
-    assert_eq!(rt; left.as_slice(), b"ax".as_slice(), "after {list}");
-    value.release(&mut Pass::none());
+    for slots in SLOTS {
+        ops_are(
+            &rt,
+            alloc,
+            slots,
+            Source::Utf16(&units),
+            (list, wanted, Some("ax")),
+            0,
+        )?;
+    }
     Ok(())
 }
 
@@ -162,24 +221,66 @@ fn texts_and_answers_have_limits(rt: HostRuntime) -> Result<(), Fail> {
         ),
     ];
     for (spent, list, wanted) in rows {
-        let mut value = Str::from_utf8(alloc, &mut Pass::none(), b"abc")?;
-        let got = answers(alloc, &mut value, list, spent)?;
-        assert_eq!(rt;
-            got.as_slice(),
-            wanted.as_bytes(),
-            "{list} after {spent} bytes"
-        );
-        value.release(&mut Pass::none());
+        ops_are(
+            &rt,
+            alloc,
+            0,
+            Source::Utf8(b"abc"),
+            (list, wanted, None),
+            spent,
+        )?;
     }
     // an edit that would pass the limit of a text leaves it
     let long = vec![in alloc; b'a'; 16_777_216]?;
-    let mut value = Str::from_utf8(alloc, &mut Pass::none(), long.as_slice())?;
     let list =
         r#"[{"edit":[0,0],"with":"b"},{"edit":[1,2],"with":"é"},{"count":"utf8"},{"edit":[0,1],"with":"b"},{"edit":[0,2],"with":"é"},{"edit":[0,1],"with":""},{"count":"utf16"},{"slice":[0,1]}]"#;
     let wanted =
         r#"{"results":[{"error":"too long"},{"error":"too long"},{"count":16777216},{"scalars":16777216,"utf16":16777216,"utf8":16777216},{"scalars":16777215,"utf16":16777215,"utf8":16777216},{"scalars":16777214,"utf16":16777214,"utf8":16777214},{"count":16777214},{"text":"a"}]}"#;
-    let got = answers(alloc, &mut value, list, 0)?;
-    assert_eq!(rt; got.as_slice(), wanted.as_bytes(), "{list}");
-    value.release(&mut Pass::none());
+    let long = Source::Utf8(long.as_slice());
+    ops_are(&rt, alloc, 4, long, (list, wanted, None), 0)
+}
+
+/// A text of 64 scalars that aren't ASCII and take 128 bytes: a value of it in a slot learns its breadcrumbs at the first `at`, and at no
+/// other question.
+#[test]
+fn a_place_is_asked_of_breadcrumbs(rt: HostRuntime) -> Result<(), Fail> {
+    let alloc = rt.alloc();
+    let text = "éééééééééééééééééééééééééééééééééééééééééééééééééééééééééééééééé";
+    let rows = [
+        (4, r#"[{"at":63}]"#, Form::Native, true),
+        (4, r#"[{"at":65},{"at":0}]"#, Form::Native, true),
+        (
+            4,
+            r#"[{"place":{"utf8":9}},{"slice":[3,60]},{"text":true}]"#,
+            Form::Native,
+            false,
+        ),
+        (
+            4,
+            r#"[{"at":1},{"edit":[0,0],"with":"é"}]"#,
+            Form::Native,
+            false,
+        ),
+        (
+            4,
+            r#"[{"edit":[0,0],"with":"é"},{"at":1}]"#,
+            Form::Native,
+            true,
+        ),
+        // no slot is left for the list
+        (1, r#"[{"at":63}]"#, Form::Native, false),
+        (0, r#"[{"at":63}]"#, Form::Owned, false),
+    ];
+    for (slots, list, form, known) in rows {
+        let (heap, all) = heap_of(&rt, alloc, slots)?;
+        let mut pass = heap.pass(all);
+        let mut value = Str::from_utf8(alloc, &mut pass, text.as_bytes())?;
+        let _answers = answers(alloc, &mut value, &mut pass, list, 0)?;
+        assert_eq!(rt;
+            (value.form(), value.crumbs_known()),
+            (form, known),
+            "{list}"
+        );
+    }
     Ok(())
 }

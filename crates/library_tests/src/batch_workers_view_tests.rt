@@ -3,12 +3,13 @@ ghost use Rattle.std.specs.Prelude.{◌≡◌, ◌<◌};
 ghost use Rattle.text_spec.specs.Views.{size_in};
 ghost use Rattle.str_value.specs.Meaning.{storage_of};
 
+use crate::heaps::{SLOTS, heap_of};
 use index_words::Index;
 use rounding::{bounds, resolve, scalar_floor, utf8_floor, utf16_floor};
 use std::marker::Brand;
 use std::process::Abort;
 use std::sync::ledger::{Blank, Ledger};
-use str_value::{MakeError, Pass, Str};
+use str_value::{MakeError, Str};
 use text_spec::Encoding;
 use unit_views::{ElementKind, calls, scalars, utf8};
 use utf16_view::utf16;
@@ -195,32 +196,33 @@ fn answers_are<A: Abort>(
 
 #[test]
 fn each_call_over_a_text_is_there_for_values(rt: HostRuntime) -> Result<(), MakeError> {
-    let mut pass = Pass::none();
-    let mut value = Str::from_utf8(rt.alloc(), &mut pass, "é😀".as_bytes())?;
-    answers_are(
-        &rt,
-        &mut value,
-        [
-            ((0, 6, 2), (Some(2), Some(2), Some(6)), (true, true)),
-            ((0, 6, 6), (Some(1), Some(5), Some(2)), (true, true)),
-            ((0, 6, 3), (Some(2), Some(2), Some(2)), (true, true)),
-        ],
-        [Some(2), Some(1), Some(3), Some(2), Some(3), Some(8)],
-        (0xC3, 0, 2, 'é', 6, 6),
-    );
-    value.release(&mut pass);
-    let mut value = Str::from_utf16(rt.alloc(), &mut pass, &[0xE9, 0xD83D, 0xDE00])?;
-    answers_are(
-        &rt,
-        &mut value,
-        [
-            ((0, 3, 2), (Some(1), Some(1), Some(3)), (true, true)),
-            ((0, 3, 6), (Some(0), Some(1), Some(1)), (true, true)),
-            ((0, 3, 3), (Some(1), Some(2), Some(2)), (true, true)),
-        ],
-        [Some(1), Some(1), Some(3), Some(1), Some(1), Some(4)],
-        (0xE9, 1, 1, 'é', 6, 6),
-    );
-    value.release(&mut pass);
+    for slots in SLOTS {
+        let (heap, all) = heap_of(&rt, rt.alloc(), slots)?;
+        let mut pass = heap.pass(all);
+        let mut value = Str::from_utf8(rt.alloc(), &mut pass, "é😀".as_bytes())?;
+        answers_are(
+            &rt,
+            &mut value,
+            [
+                ((0, 6, 2), (Some(2), Some(2), Some(6)), (true, true)),
+                ((0, 6, 6), (Some(1), Some(5), Some(2)), (true, true)),
+                ((0, 6, 3), (Some(2), Some(2), Some(2)), (true, true)),
+            ],
+            [Some(2), Some(1), Some(3), Some(2), Some(3), Some(8)],
+            (0xC3, 0, 2, 'é', 6, 6),
+        );
+        let mut value = Str::from_utf16(rt.alloc(), &mut pass, &[0xE9, 0xD83D, 0xDE00])?;
+        answers_are(
+            &rt,
+            &mut value,
+            [
+                ((0, 3, 2), (Some(1), Some(1), Some(3)), (true, true)),
+                ((0, 3, 6), (Some(0), Some(1), Some(1)), (true, true)),
+                ((0, 3, 3), (Some(1), Some(2), Some(2)), (true, true)),
+            ],
+            [Some(1), Some(1), Some(3), Some(1), Some(1), Some(4)],
+            (0xE9, 1, 1, 'é', 6, 6),
+        );
+    }
     Ok(())
 }

@@ -1,16 +1,19 @@
 //! What no clause says: that answers are given where memory is ample, and what they are at texts worked out by hand. ASCII texts that
 //! differ in one place are compared by the plain program too, which normalises both.
-ghost use Rattle.std.specs.Prelude.{◌≡◌};
+ghost use Rattle.std.specs.Prelude.{◌≡◌, IfOk};
+ghost use Rattle.str_value.specs.Meaning.{OfHeap};
 
+use crate::heaps::{SLOTS, heap_of};
 use canon_order::{compare, equal, key};
 use std::alloc::{AllocError, Global};
 use std::cmp::Ordering;
 use std::marker::Brand;
 use std::process::Abort;
 use std::sync::ledger::{Blank, Ledger};
-use str_value::{MakeError, Pass, Str};
+use str_value::{MakeError, Str, StrPass};
 use text_spec::OutOfMemory;
 use unicode_normalization::to_nfc;
+use value_heaps::{closed, ended};
 use word_units::Steps;
 
 /// Whether two values are equal, how they compare, and how their keys do.
@@ -25,6 +28,8 @@ fn answers_with<'h, L: Ledger>(
     requires name { blank.name ≡ L.name }
     requires parts { blank.parts ≡ L.parts }
     requires one { blank.parts ≡ 1 }
+    ensures kept { a.new ≡ a.old }
+    ensures other_kept { b.new ≡ b.old }
 {
     let mut steps = Steps::<L>::from_blank(blank);
     let same = equal(alloc, a, b, &mut steps)?;
@@ -34,7 +39,10 @@ fn answers_with<'h, L: Ledger>(
     Ok((same, order, left.as_slice().cmp(right.as_slice())))
 }
 
-fn answers<'h>(alloc: Global, a: &mut Str<'h>, b: &mut Str<'h>) -> Result<Answers, OutOfMemory> {
+fn answers<'h>(alloc: Global, a: &mut Str<'h>, b: &mut Str<'h>) -> Result<Answers, OutOfMemory>
+    ensures kept { a.new ≡ a.old }
+    ensures other_kept { b.new ≡ b.old }
+{
     answers_with::<Brand>(alloc, a, b, Blank::new(1))
 }
 
@@ -42,22 +50,28 @@ fn key_with<L: Ledger>(alloc: Global, a: &mut Str, blank: Blank) -> Result<Vec<u
     requires name { blank.name ≡ L.name }
     requires parts { blank.parts ≡ L.parts }
     requires one { blank.parts ≡ 1 }
+    ensures { a.new ≡ a.old }
 {
     let mut steps = Steps::<L>::from_blank(blank);
     key(alloc, a, &mut steps)
 }
 
-fn key_of(alloc: Global, a: &mut Str) -> Result<Vec<u8>, OutOfMemory> {
+fn key_of(alloc: Global, a: &mut Str) -> Result<Vec<u8>, OutOfMemory>
+    ensures { a.new ≡ a.old }
+{
     key_with::<Brand>(alloc, a, Blank::new(1))
 }
 
 /// The value of a text, in UTF-8 or in UTF-16.
 fn value_of<'h>(
     alloc: Global,
-    pass: &mut Pass<'h>,
+    pass: &mut StrPass<'h>,
     text: &str,
     units: bool,
-) -> Result<Str<'h>, MakeError> {
+) -> Result<Str<'h>, MakeError>
+    ensures one_heap { pass.new.heap ≡ pass.old.heap }
+    ensures heap { IfOk result (λ s. OfHeap pass.new s.place) }
+{
     if units {
         let units: Vec<u16> = text.encode_utf16().collect(alloc)?;
         return Str::from_utf16(alloc, pass, units.as_slice());
@@ -68,7 +82,35 @@ fn value_of<'h>(
 /// The pairs of storages: whether each of two values is made of UTF-16.
 const STORAGES: [(bool, bool); 4] = [(false, false), (false, true), (true, false), (true, true)];
 
-/// Two texts compare as wanted, both ways round, in each pair of storages.
+/// Two texts compare as wanted, both ways round, in one pair of storages, in a heap with so many slots.
+#[tactic(auto, using(value_heaps::proofs::Moving::of_heap_moves))]
+fn compare_in<A: Abort>(
+    rt: &A,
+    alloc: Global,
+    slots: u32,
+    storages: (bool, bool),
+    texts: (&str, &str),
+    wanted: Ordering,
+) -> Result<(), MakeError> {
+    let (a, b) = texts;
+    let (heap, all) = heap_of(rt, alloc, slots)?;
+    let mut pass = heap.pass(all);
+    let mut a_value = value_of(alloc, &mut pass, a, storages.0)?;
+    let mut b_value = value_of(alloc, &mut pass, b, storages.1)?;
+    let there = answers(alloc, &mut a_value, &mut b_value)?;
+    let back = answers(alloc, &mut b_value, &mut a_value)?;
+    let same = wanted == Ordering::Equal;
+    assert_eq!(rt; there, (same, wanted, wanted), "{a} {b}");
+    assert_eq!(rt; back, (same, wanted.reverse(), wanted.reverse()), "{b} {a}");
+    a_value.release(&mut pass);
+    b_value.release(&mut pass);
+    let all = ended(pass).expect(rt, "something is still out");
+    let (slots, idle) = closed(heap, all);
+    assert_eq!(rt; slots, idle, "slots and idle slots");
+    Ok(())
+}
+
+/// The same in each pair of storages, in slots and outside of them.
 fn compare_as<A: Abort>(
     rt: &A,
     alloc: Global,
@@ -76,17 +118,10 @@ fn compare_as<A: Abort>(
     b: &str,
     wanted: Ordering,
 ) -> Result<(), MakeError> {
-    let mut pass = Pass::none();
-    for (left, right) in STORAGES {
-        let mut a_value = value_of(alloc, &mut pass, a, left)?;
-        let mut b_value = value_of(alloc, &mut pass, b, right)?;
-        let there = answers(alloc, &mut a_value, &mut b_value)?;
-        let back = answers(alloc, &mut b_value, &mut a_value)?;
-        let same = wanted == Ordering::Equal;
-        assert_eq!(rt; there, (same, wanted, wanted), "{a} {b}");
-        assert_eq!(rt; back, (same, wanted.reverse(), wanted.reverse()), "{b} {a}");
-        a_value.release(&mut pass);
-        b_value.release(&mut pass);
+    for slots in SLOTS {
+        for storages in STORAGES {
+            compare_in(rt, alloc, slots, storages, (a, b), wanted)?;
+        }
     }
     Ok(())
 }
@@ -129,9 +164,26 @@ fn texts_compare_by_their_forms(rt: HostRuntime) -> Result<(), MakeError> {
     Ok(())
 }
 
+#[tactic(auto, using(value_heaps::proofs::Moving::of_heap_moves))]
+fn key_is<A: Abort>(
+    rt: &A,
+    alloc: Global,
+    slots: u32,
+    text: &str,
+    units: bool,
+    wanted: &[u8],
+) -> Result<(), MakeError> {
+    let (heap, all) = heap_of(rt, alloc, slots)?;
+    let mut pass = heap.pass(all);
+    let mut value = value_of(alloc, &mut pass, text, units)?;
+    let bytes = key_of(alloc, &mut value)?;
+    assert_eq!(rt; bytes.as_slice(), wanted, "{text}");
+    value.release(&mut pass);
+    Ok(())
+}
+
 #[test]
 fn keys_are_the_bytes_of_the_forms(rt: HostRuntime) -> Result<(), MakeError> {
-    let mut pass = Pass::none();
     let rows: [(&str, &[u8]); 6] = [
         ("e\u{301}", &[0xC3, 0xA9]),
         ("", &[]),
@@ -142,18 +194,19 @@ fn keys_are_the_bytes_of_the_forms(rt: HostRuntime) -> Result<(), MakeError> {
     ];
     for (text, wanted) in rows {
         for units in [false, true] {
-            let mut value = value_of(rt.alloc(), &mut pass, text, units)?;
-            let bytes = key_of(rt.alloc(), &mut value)?;
-            assert_eq!(rt; bytes.as_slice(), wanted, "{text}");
-            value.release(&mut pass);
+            for slots in SLOTS {
+                key_is(&rt, rt.alloc(), slots, text, units, wanted)?;
+            }
         }
     }
     Ok(())
 }
 
+#[tactic(auto, using(value_heaps::proofs::Moving::of_heap_moves))]
 #[test]
 fn a_lone_surrogate_is_equal_to_its_repair(rt: HostRuntime) -> Result<(), MakeError> {
-    let mut pass = Pass::none();
+    let (heap, all) = heap_of(&rt, rt.alloc(), 4)?;
+    let mut pass = heap.pass(all);
     let mut a = Str::from_utf16(rt.alloc(), &mut pass, &[0x61, 0xD800])?;
     let mut b = value_of(rt.alloc(), &mut pass, "a\u{FFFD}", false)?;
     let there = answers(rt.alloc(), &mut a, &mut b)?;

@@ -1,25 +1,29 @@
 //! What no clause says: that edits find memory, and what they answer at texts written out by hand and beside a plain program.
-ghost use Rattle.std.specs.Prelude.{◌≡◌};
+ghost use Rattle.std.specs.Prelude.{◌≡◌, IfOk};
+ghost use Rattle.str_value.specs.Meaning.{OfHeap};
 
+use crate::heaps::{SLOTS, heap_of, whole};
 use edit_cow::{EditError, Wrote, append, replace, reserve};
 use index_words::Index;
+use object_words::Form;
 use std::alloc::{AllocError, Global};
 use std::marker::Brand;
 use std::process::Abort;
 use std::sync::ledger::{Blank, Ledger};
 use std::test::Fail;
-use str_value::{Pass, Str};
-use text_spec::OutOfMemory;
-use word_units::{OutOfBounds, Steps, Text};
+use str_value::{MakeError, Str, StrPass};
+use value_heaps::{closed, ended};
+use word_units::{OutOfBounds, Steps};
 
 /// The bits of an index word that say in which units its position is read.
 const UTF8: u64 = 4;
 
 const UTF16: u64 = 8;
 
-fn replaced_with<L: Ledger>(
+fn replaced_with<'h, L: Ledger>(
     alloc: Global,
-    value: &mut Str,
+    value: &mut Str<'h>,
+    pass: &mut StrPass<'h>,
     a: Index,
     b: Index,
     with: &[u8],
@@ -28,72 +32,145 @@ fn replaced_with<L: Ledger>(
     requires name { blank.name ≡ L.name }
     requires parts { blank.parts ≡ L.parts }
     requires one { blank.parts ≡ 1 }
+    requires heap { OfHeap pass.old value.old.place }
+    ensures one_heap { pass.new.heap ≡ pass.old.heap }
+    ensures heap { OfHeap pass.new value.new.place }
 {
     let mut steps = Steps::<L>::from_blank(blank);
-    replace(alloc, value, &mut Pass::none(), a, b, with, &mut steps)
+    replace(alloc, value, pass, a, b, with, &mut steps)
 }
 
 /// `replace` with two index words.
-fn replaced(
+fn replaced<'h>(
     rt: &impl Abort,
     alloc: Global,
-    value: &mut Str,
+    value: &mut Str<'h>,
+    pass: &mut StrPass<'h>,
     words: (u64, u64),
     with: &[u8],
-) -> Result<Wrote, EditError> {
+) -> Result<Wrote, EditError>
+    requires heap { OfHeap pass.old value.old.place }
+    ensures one_heap { pass.new.heap ≡ pass.old.heap }
+    ensures heap { OfHeap pass.new value.new.place }
+{
     let a = Index::check(words.0).expect(rt, "the first is an index");
     let b = Index::check(words.1).expect(rt, "the second is an index");
-    replaced_with::<Brand>(alloc, value, a, b, with, Blank::new(1))
+    replaced_with::<Brand>(alloc, value, pass, a, b, with, Blank::new(1))
 }
 
-fn appended_with<L: Ledger>(
+fn appended_with<'h, L: Ledger>(
     alloc: Global,
-    value: &mut Str,
+    value: &mut Str<'h>,
+    pass: &mut StrPass<'h>,
     with: &[u8],
     blank: Blank,
 ) -> Result<Wrote, EditError>
     requires name { blank.name ≡ L.name }
     requires parts { blank.parts ≡ L.parts }
     requires one { blank.parts ≡ 1 }
+    requires heap { OfHeap pass.old value.old.place }
+    ensures one_heap { pass.new.heap ≡ pass.old.heap }
+    ensures heap { OfHeap pass.new value.new.place }
 {
     let mut steps = Steps::<L>::from_blank(blank);
-    append(alloc, value, &mut Pass::none(), with, &mut steps)
+    append(alloc, value, pass, with, &mut steps)
 }
 
-fn appended(alloc: Global, value: &mut Str, with: &[u8]) -> Result<Wrote, EditError> {
-    appended_with::<Brand>(alloc, value, with, Blank::new(1))
+fn appended<'h>(
+    alloc: Global,
+    value: &mut Str<'h>,
+    pass: &mut StrPass<'h>,
+    with: &[u8],
+) -> Result<Wrote, EditError>
+    requires heap { OfHeap pass.old value.old.place }
+    ensures one_heap { pass.new.heap ≡ pass.old.heap }
+    ensures heap { OfHeap pass.new value.new.place }
+{
+    appended_with::<Brand>(alloc, value, pass, with, Blank::new(1))
 }
 
-/// The UTF-8 of a whole value.
-fn whole(alloc: Global, value: &Str) -> Result<Vec<u8>, OutOfMemory> {
-    let (low, high) = (value.low(), value.high());
-    value.copy_utf8(alloc, low, high)
+/// What a value is made of.
+#[derive(Clone, Copy)]
+enum Source<'a> {
+    Utf8(&'a [u8]),
+    Utf16(&'a [u16]),
 }
 
-/// A value has the text, and the form and the two words of one that is made of it.
-fn stands_as(
+fn value_of<'h>(alloc: Global, pass: &mut StrPass<'h>, source: Source) -> Result<Str<'h>, MakeError>
+    ensures one_heap { pass.new.heap ≡ pass.old.heap }
+    ensures heap { IfOk result (λ s. OfHeap pass.new s.place) }
+{
+    match source {
+        Source::Utf8(bytes) => Str::from_utf8(alloc, pass, bytes),
+        Source::Utf16(units) => Str::from_utf16(alloc, pass, units),
+    }
+}
+
+/// A value has the text, and the form and the two words of one that is made of it; but two values in slots have each a slot of its own.
+fn stands_as<'h>(
     rt: &impl Abort,
     alloc: Global,
-    value: &Str,
+    value: &mut Str<'h>,
+    pass: &mut StrPass<'h>,
     text: &str,
-    row: &str,
-) -> Result<(), Fail> {
+) -> Result<(), Fail>
+    ensures one_heap { pass.new.heap ≡ pass.old.heap }
+    ensures value { value.new ≡ value.old }
+{
     let bytes = whole(alloc, value)?;
-    assert_eq!(rt; bytes.as_slice(), text.as_bytes(), "{row}");
-    let fresh = Str::from_utf8(alloc, &mut Pass::none(), text.as_bytes())?;
+    assert_eq!(rt; bytes.as_slice(), text.as_bytes(), "{text}");
+    let fresh = Str::from_utf8(alloc, pass, text.as_bytes())?;
     let (is, wanted) = (value.object(), fresh.object());
-    assert_eq!(rt; (is.w0(), is.w1()), (wanted.w0(), wanted.w1()), "{row}");
-    assert_eq!(rt; value.form(), fresh.form(), "{row}");
-    fresh.release(&mut Pass::none());
+    assert_eq!(rt; is.w0(), wanted.w0(), "{text}");
+    let apart = value.form() == Form::Native;
+    assert_eq!(rt; is.w1() != wanted.w1(), apart, "{text}");
+    assert_eq!(rt; value.form(), fresh.form(), "{text}");
+    fresh.release(pass);
     Ok(())
 }
 
-fn where_it_stands(text: &str) -> Wrote {
+/// Where a text of so many bytes stands in a heap with so many slots.
+fn where_it_stands(text: &str, slots: u32) -> Wrote {
     if text.len() <= 15 {
         Wrote::Small
+    } else if slots > 0 {
+        Wrote::Copied
     } else {
         Wrote::Owned
     }
+}
+
+/// A value, two index words, what is put between them, and the text then.
+type Row<'a> = (Source<'a>, (u64, u64), &'a str, &'a str);
+
+/// An edit in a heap with so many slots. The value knows that it is the only holder of its slot then, and all slots are idle in the end.
+#[tactic(auto, using(value_heaps::proofs::Moving::of_heap_moves))]
+fn edit_is(rt: &impl Abort, alloc: Global, slots: u32, row: Row) -> Result<(), Fail> {
+    let (source, words, with, wanted) = row;
+    let (heap, all) = heap_of(rt, alloc, slots)?;
+    let mut pass = heap.pass(all);
+    let mut value = value_of(alloc, &mut pass, source)?;
+    let wrote = replaced(rt, alloc, &mut value, &mut pass, words, with.as_bytes())?;
+    assert_eq!(rt;
+        wrote,
+        where_it_stands(wanted, slots),
+        "{with} makes {wanted}"
+    );
+    stands_as(rt, alloc, &mut value, &mut pass, wanted)?;
+    assert_eq!(rt; value.known_sole(), wrote == Wrote::Copied, "{wanted}");
+    assert!(rt; !reserve(&mut value, &mut pass));
+    value.release(&mut pass);
+    let all = ended(pass).expect(rt, "something is still out");
+    let (slots, idle) = closed(heap, all);
+    assert_eq!(rt; slots, idle, "slots and idle slots");
+    Ok(())
+}
+
+fn edits_are(rt: &impl Abort, alloc: Global, row: Row) -> Result<(), Fail> {
+    for slots in SLOTS {
+        edit_is(rt, alloc, slots, row)?;
+    }
+    Ok(())
 }
 
 fn at(position: u64, mark: u64) -> u64 {
@@ -181,65 +258,72 @@ fn what_lies_between_two_indices_is_replaced(rt: HostRuntime) -> Result<(), Fail
         ),
     ];
     for (text, a, b, with, wanted) in rows {
-        let mut value = Str::from_utf8(alloc, &mut Pass::none(), text.as_bytes())?;
-        let wrote = replaced(&rt, alloc, &mut value, (a, b), with.as_bytes())?;
-        assert_eq!(rt;
-            wrote,
-            where_it_stands(wanted),
-            "{text}: {with} makes {wanted}"
-        );
-        stands_as(&rt, alloc, &value, wanted, wanted)?;
-        assert!(rt; !reserve(&mut value, &mut Pass::none()));
-        value.release(&mut Pass::none());
+        edits_are(
+            &rt,
+            alloc,
+            (Source::Utf8(text.as_bytes()), (a, b), with, wanted),
+        )?;
     }
     Ok(())
 }
 
-#[test]
-fn units_of_utf16_become_utf8_at_the_first_edit(rt: HostRuntime) -> Result<(), Fail> {
-    let alloc = rt.alloc();
-    let mut value = Str::from_utf16(alloc, &mut Pass::none(), &[0xD83D, 0xDE00])?;
+#[tactic(auto, using(value_heaps::proofs::Moving::of_heap_moves))]
+fn units_become_utf8(rt: &impl Abort, alloc: Global, slots: u32) -> Result<(), Fail> {
+    let (heap, all) = heap_of(rt, alloc, slots)?;
+    let mut pass = heap.pass(all);
+    let mut value = Str::from_utf16(alloc, &mut pass, &[0xD83D, 0xDE00])?;
     let start = (at(0, UTF16), at(0, UTF16));
-    let wrote = replaced(&rt, alloc, &mut value, start, b"x")?;
+    let wrote = replaced(rt, alloc, &mut value, &mut pass, start, b"x")?;
     assert_eq!(rt; wrote, Wrote::Small);
     let object = value.object();
     assert_eq!(rt;
         (object.w0(), object.w1()),
         (0x80_989F_F078, 0xA500_0000_0000_0000)
     );
-    stands_as(&rt, alloc, &value, "x😀", "x before a pair")?;
-    value.release(&mut Pass::none());
-    let mut value = Str::from_utf16(alloc, &mut Pass::none(), &[0x61, 0xD800, 0x62])?;
-    let wrote = appended(alloc, &mut value, "0123456789".as_bytes())?;
+    stands_as(rt, alloc, &mut value, &mut pass, "x😀")?;
+    value.release(&mut pass);
+    let mut value = Str::from_utf16(alloc, &mut pass, &[0x61, 0xD800, 0x62])?;
+    let wrote = appended(alloc, &mut value, &mut pass, "0123456789".as_bytes())?;
     assert_eq!(rt; wrote, Wrote::Small);
-    stands_as(&rt, alloc, &value, "a\u{FFFD}b0123456789", "fifteen bytes")?;
-    let wrote = appended(alloc, &mut value, "".as_bytes())?;
+    stands_as(rt, alloc, &mut value, &mut pass, "a\u{FFFD}b0123456789")?;
+    let wrote = appended(alloc, &mut value, &mut pass, "".as_bytes())?;
     assert_eq!(rt; wrote, Wrote::Small);
-    let wrote = appended(alloc, &mut value, "é".as_bytes())?;
-    assert_eq!(rt; wrote, Wrote::Owned);
-    stands_as(
-        &rt,
-        alloc,
-        &value,
-        "a\u{FFFD}b0123456789é",
-        "seventeen bytes",
-    )?;
-    value.release(&mut Pass::none());
+    let wrote = appended(alloc, &mut value, &mut pass, "é".as_bytes())?;
+    let wanted = "a\u{FFFD}b0123456789é";
+    assert_eq!(rt; wrote, where_it_stands(wanted, slots));
+    stands_as(rt, alloc, &mut value, &mut pass, wanted)?;
+    value.release(&mut pass);
+    let all = ended(pass).expect(rt, "something is still out");
+    let (slots, idle) = closed(heap, all);
+    assert_eq!(rt; slots, idle, "slots and idle slots");
+    Ok(())
+}
+
+#[test]
+fn units_of_utf16_become_utf8_at_the_first_edit(rt: HostRuntime) -> Result<(), Fail> {
+    for slots in SLOTS {
+        units_become_utf8(&rt, rt.alloc(), slots)?;
+    }
     Ok(())
 }
 
 /// An edit is refused, and the value is as it was.
-fn refused(
+fn left_as_it_was<'h>(
     rt: &impl Abort,
     alloc: Global,
-    value: &mut Str,
+    value: &mut Str<'h>,
+    pass: &mut StrPass<'h>,
     words: (u64, u64),
     with: &[u8],
     wanted: EditError,
-) -> Result<(), Fail> {
+) -> Result<(), Fail>
+    requires heap { OfHeap pass.old value.old.place }
+    ensures one_heap { pass.new.heap ≡ pass.old.heap }
+    ensures heap { OfHeap pass.new value.new.place }
+{
     let before = whole(alloc, value)?;
     let object = value.object();
-    match replaced(rt, alloc, value, words, with) {
+    match replaced(rt, alloc, value, pass, words, with) {
         Ok(_) => assert!(rt; false, "{words:?} was edited"),
         Err(fault) => assert_eq!(rt; fault, wanted, "{words:?}"),
     }
@@ -251,6 +335,40 @@ fn refused(
         "{words:?}"
     );
     Ok(())
+}
+
+#[tactic(auto, using(value_heaps::proofs::Moving::of_heap_moves))]
+fn refusal_is(
+    rt: &impl Abort,
+    alloc: Global,
+    slots: u32,
+    source: Source,
+    words: (u64, u64),
+    with: &[u8],
+    wanted: EditError,
+) -> Result<(), Fail> {
+    let (heap, all) = heap_of(rt, alloc, slots)?;
+    let mut pass = heap.pass(all);
+    let mut value = value_of(alloc, &mut pass, source)?;
+    left_as_it_was(rt, alloc, &mut value, &mut pass, words, with, wanted)?;
+    value.release(&mut pass);
+    let all = ended(pass).expect(rt, "something is still out");
+    let (slots, idle) = closed(heap, all);
+    assert_eq!(rt; slots, idle, "slots and idle slots");
+    Ok(())
+}
+
+/// The same in each heap.
+fn refused(
+    rt: &impl Abort,
+    alloc: Global,
+    source: Source,
+    words: (u64, u64),
+    with: &[u8],
+    wanted: EditError,
+) -> Result<(), Fail> {
+    refusal_is(rt, alloc, 0, source, words, with, wanted)?;
+    refusal_is(rt, alloc, 4, source, words, with, wanted)
 }
 
 fn out_of(position: u64, low: u64, high: u64) -> EditError {
@@ -266,8 +384,7 @@ fn refusals_come_in_their_order_and_leave_the_value(rt: HostRuntime) -> Result<(
     let alloc = rt.alloc();
     let no_text: &[u8] = &[0xC3, 0x28];
     let mut many = vec![in alloc; b'b'; 16_777_217]?;
-    let mut value = Str::from_utf8(alloc, &mut Pass::none(), b"abc")?;
-    let s = &mut value;
+    let s = Source::Utf8(b"abc");
     // each alone
     refused(
         &rt,
@@ -342,23 +459,42 @@ fn refusals_come_in_their_order_and_leave_the_value(rt: HostRuntime) -> Result<(
         valid_up_to: 16_777_216,
     };
     refused(&rt, alloc, s, (65_541, 65_541), many.as_slice(), no_byte)?;
-    value.release(&mut Pass::none());
-    let mut value = Str::from_utf16(alloc, &mut Pass::none(), &[0xD83D, 0xDE00])?;
+    let pair = Source::Utf16(&[0xD83D, 0xDE00]);
     let behind = (at(5, UTF8), at(0, UTF16));
-    refused(&rt, alloc, &mut value, behind, b"x", out_of(5, 0, 4))?;
-    value.release(&mut Pass::none());
-    Ok(())
+    refused(&rt, alloc, pair, behind, b"x", out_of(5, 0, 4))?;
+    // a value of more bytes than its two words hold, which stands in a slot where there are some
+    let long = Source::Utf8("éaaaaaaaaaaaaaaaa".as_bytes());
+    refused(
+        &rt,
+        alloc,
+        long,
+        (at(0, UTF8), at(19, UTF8)),
+        b"x",
+        out_of(19, 0, 18),
+    )?;
+    refused(
+        &rt,
+        alloc,
+        long,
+        (at(0, UTF8), at(2, UTF8)),
+        no_text,
+        EditError::NotUtf8 { valid_up_to: 0 },
+    )
 }
 
+#[tactic(auto, using(value_heaps::proofs::Moving::of_heap_moves))]
 #[test]
 fn two_indices_the_wrong_way_round_are_carried_as_they_came(rt: HostRuntime) -> Result<(), Fail> {
     let alloc = rt.alloc();
-    let mut value = Str::from_utf8(alloc, &mut Pass::none(), "a😀b".as_bytes())?;
+    let (heap, all) = heap_of(&rt, alloc, 0)?;
+    let mut pass = heap.pass(all);
+    let mut value = Str::from_utf8(alloc, &mut pass, "a😀b".as_bytes())?;
     // both within the pair: no refusal, since both are rounded down to its start
-    let wrote = replaced(&rt, alloc, &mut value, (at(4, UTF8), at(2, UTF8)), b"")?;
+    let words = (at(4, UTF8), at(2, UTF8));
+    let wrote = replaced(&rt, alloc, &mut value, &mut pass, words, b"")?;
     assert_eq!(rt; wrote, Wrote::Small);
     let words = (at(3, UTF16), at(0, UTF8));
-    match replaced(&rt, alloc, &mut value, words, b"x") {
+    match replaced(&rt, alloc, &mut value, &mut pass, words, b"x") {
         Ok(_) => assert!(rt; false, "the value was edited"),
         Err(fault) => {
             let shown = format!(in alloc; "{fault:?}")?;
@@ -368,35 +504,68 @@ fn two_indices_the_wrong_way_round_are_carried_as_they_came(rt: HostRuntime) -> 
             );
         }
     }
-    value.release(&mut Pass::none());
+    value.release(&mut pass);
     Ok(())
+}
+
+/// Bytes can't be appended, by this cause.
+fn append_is_refused<'h>(
+    rt: &impl Abort,
+    alloc: Global,
+    value: &mut Str<'h>,
+    pass: &mut StrPass<'h>,
+    with: &[u8],
+    wanted: EditError,
+)
+    requires heap { OfHeap pass.old value.old.place }
+    ensures one_heap { pass.new.heap ≡ pass.old.heap }
+    ensures heap { OfHeap pass.new value.new.place }
+{
+    let fault = appended(alloc, value, pass, with).err();
+    assert_eq!(rt; fault, Some(wanted));
 }
 
 #[test]
 fn the_longest_text_takes_no_more(rt: HostRuntime) -> Result<(), Fail> {
     let alloc = rt.alloc();
     let many = vec![in alloc; b'a'; 16_777_216]?;
-    let mut value = Str::from_utf8(alloc, &mut Pass::none(), many.as_slice())?;
-    let object = value.object();
-    match appended(alloc, &mut value, b"b") {
-        Ok(_) => assert!(rt; false, "a longer text was made"),
-        Err(fault) => assert_eq!(rt; fault, EditError::TooLong { len: 16_777_217 }),
-    }
-    match appended(alloc, &mut value, &[0xFF]) {
-        Ok(_) => assert!(rt; false, "a byte of no text was appended"),
-        Err(fault) => assert_eq!(rt; fault, EditError::NotUtf8 { valid_up_to: 0 }),
-    }
-    assert_eq!(rt;
-        (value.object().w0(), value.object().w1()),
-        (object.w0(), object.w1())
-    );
-    let bytes = whole(alloc, &value)?;
+    let (heap, all) = heap_of(&rt, alloc, 4)?;
+    let mut pass = heap.pass(all);
+    let mut value = Str::from_utf8(alloc, &mut pass, many.as_slice())?;
+    let too_long = EditError::TooLong { len: 16_777_217 };
+    append_is_refused(&rt, alloc, &mut value, &mut pass, b"b", too_long);
+    let not_utf8 = EditError::NotUtf8 { valid_up_to: 0 };
+    append_is_refused(&rt, alloc, &mut value, &mut pass, &[0xFF], not_utf8);
+    let bytes = whole(alloc, &mut value)?;
     assert!(rt; bytes.as_slice() == many.as_slice(), "the text has changed");
     let first = (at(0, UTF8), at(1, UTF8));
-    let wrote = replaced(&rt, alloc, &mut value, first, b"b")?;
+    let wrote = replaced(&rt, alloc, &mut value, &mut pass, first, b"b")?;
     assert_eq!(rt; wrote, Wrote::Owned);
     assert_eq!(rt; value.lengths().utf8, 16_777_216);
-    value.release(&mut Pass::none());
+    value.release(&mut pass);
+    Ok(())
+}
+
+/// A text of 248 bytes fits a slot, and one of 249 doesn't.
+#[test]
+fn a_text_goes_into_a_slot_as_far_as_it_fits(rt: HostRuntime) -> Result<(), Fail> {
+    let alloc = rt.alloc();
+    let text = vec![in alloc; b'a'; 247]?;
+    let (heap, all) = heap_of(&rt, alloc, 2)?;
+    let mut pass = heap.pass(all);
+    let mut value = Str::from_utf8(alloc, &mut pass, text.as_slice())?;
+    let mut wrote = [Wrote::Small; 3];
+    wrote[0] = appended(alloc, &mut value, &mut pass, b"b")?;
+    wrote[1] = appended(alloc, &mut value, &mut pass, b"c")?;
+    wrote[2] = replaced(
+        &rt,
+        alloc,
+        &mut value,
+        &mut pass,
+        (at(0, UTF8), at(1, UTF8)),
+        b"",
+    )?;
+    assert_eq!(rt; wrote, [Wrote::Copied, Wrote::Owned, Wrote::Copied]);
     Ok(())
 }
 
@@ -437,28 +606,13 @@ fn edits_agree(
     let (front, to) = (part(alloc, scalars, 0, i)?, part(alloc, scalars, 0, j)?);
     let wanted = plain(alloc, scalars, i, j, with)?;
     let words = (at(front.len() as u64, UTF8), at(to.len() as u64, UTF8));
-    let mut value = Str::from_utf8(alloc, &mut Pass::none(), all.as_bytes())?;
-    let wrote = replaced(rt, alloc, &mut value, words, with.as_bytes())?;
-    assert_eq!(rt;
-        wrote,
-        where_it_stands(wanted.as_str()),
-        "{i} to {j}: {with}"
-    );
-    stands_as(rt, alloc, &value, wanted.as_str(), "UTF-8")?;
-    value.release(&mut Pass::none());
+    let bytes = Source::Utf8(all.as_bytes());
+    edits_are(rt, alloc, (bytes, words, with, wanted.as_str()))?;
     let units = all.encode_utf16().collect::<Vec<u16>>(alloc)?;
     let a = at(front.encode_utf16().count() as u64, UTF16);
     let b = at(to.encode_utf16().count() as u64, UTF16);
-    let mut value = Str::from_utf16(alloc, &mut Pass::none(), units.as_slice())?;
-    let wrote = replaced(rt, alloc, &mut value, (a, b), with.as_bytes())?;
-    assert_eq!(rt;
-        wrote,
-        where_it_stands(wanted.as_str()),
-        "{i} to {j}: {with}"
-    );
-    stands_as(rt, alloc, &value, wanted.as_str(), "UTF-16")?;
-    value.release(&mut Pass::none());
-    Ok(())
+    let units = Source::Utf16(units.as_slice());
+    edits_are(rt, alloc, (units, (a, b), with, wanted.as_str()))
 }
 
 #[test]

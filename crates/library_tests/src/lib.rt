@@ -15,6 +15,8 @@ mod edit_cow_tests;
 #[cfg(test)]
 mod example_tests;
 #[cfg(test)]
+mod heaps;
+#[cfg(test)]
 mod index_words_tests;
 #[cfg(test)]
 mod object_words_tests;
@@ -28,9 +30,5 @@ mod query_program_tests;
 mod query_session_tests;
 #[cfg(test)]
 mod slot_model_tests;
-#[cfg(test)]
-mod str_value_copy_tests;
-#[cfg(test)]
-mod str_value_tests;
 #[cfg(test)]
 mod text_spec_tests;

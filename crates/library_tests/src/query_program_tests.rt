@@ -7,11 +7,12 @@ use std::alloc::Global;
 use std::thread::Threads;
 use text_spec::{OutOfMemory, TextList};
 
-/// How a run ended and what it wrote.
+/// How a run ended, what it wrote, and how many slots its heap had and left idle.
 #[derive(Drop)]
 struct Run {
     status: u8,
     written: Vec<u8>,
+    slots: Option<(u32, u32)>,
 }
 
 /// A run over `input`, read in pieces of at most `piece` bytes, with the call of each side that fails, or 0.
@@ -30,13 +31,22 @@ fn run_over<R: Threads + Sync>(
     let mut source = MemSource::new(bytes, piece, vec![in alloc; failing.0]?);
     let mut sink = MemSink::new(alloc, room, vec![in alloc; failing.1]?)?;
     let words = TextList::new(alloc);
-    let status = run(rt, alloc, &words, &mut source, &mut sink, &OpenGate).status;
+    let ended = run(rt, alloc, &words, &mut source, &mut sink, &OpenGate);
+    let status = ended.status;
     if status == 5 {
         return Err(OutOfMemory);
     }
+    let slots = match &ended.history {
+        Some(closed) => Some((closed.slots(), closed.idle())),
+        None => None,
+    };
     let mut written = Vec::new(alloc);
     written.extend_from_slice(sink.bytes())?;
-    Ok(Run { status, written })
+    Ok(Run {
+        status,
+        written,
+        slots,
+    })
 }
 
 /// A sink that takes one byte of each write, however many it is given.
@@ -135,6 +145,7 @@ fn words_are_refused_before_anything_is_read(rt: HostRuntime) -> Result<(), OutO
     let mut sink = MemSink::new(alloc, 100, vec![in alloc; 1]?)?;
     let ended = run(&rt, alloc, &words, &mut source, &mut sink, &OpenGate);
     assert_eq!(rt; ended.status, 2);
+    assert!(rt; ended.history.is_none());
     assert!(rt; sink.bytes().is_empty());
     Ok(())
 }
@@ -146,7 +157,8 @@ fn a_failing_call_leaves_the_replies_before_it(rt: HostRuntime) -> Result<(), Ou
     let replies =
         b"{\"scalars\":1,\"utf16\":1,\"utf8\":1}\n{\"scalars\":1,\"utf16\":1,\"utf8\":1}\n{\"error\":\"not built\"}\n";
     let reply_length = 33;
-    for call in 1..70 {
+    // Each run opens a heap of its own, so the calls are those about the ends of lines.
+    for call in [1, 2, 24, 25, 26, 48, 49, 60, 61, 62, 69] {
         let got = run_over(&rt, rt.alloc(), input, 1, 1000, (call, 0))?;
         // Sixty bytes are read one at a time, and one call more finds the end.
         let want = if call <= 61 { 3 } else { 0 };
@@ -173,7 +185,7 @@ fn a_failing_call_leaves_the_replies_before_it(rt: HostRuntime) -> Result<(), Ou
     }
     let got = run_over(&rt, rt.alloc(), input, 1000, 1000, (0, 1))?;
     assert!(rt; got.written.is_empty());
-    for room in 0..replies.len() {
+    for room in [0, 1, 32, 33, 34, 65, 66, 67, replies.len() - 1] {
         let got = run_over(&rt, rt.alloc(), input, 30, room, (0, 0))?;
         assert_eq!(rt; got.status, 4, "room {room}");
         assert_eq!(rt; got.written.as_slice(), &replies[..room], "room {room}");
@@ -217,6 +229,7 @@ fn a_name_too_many_is_refused(rt: HostRuntime) -> Result<(), OutOfMemory> {
     input.push_str("{\"load\":\"n7\",\"text\":\"xy\"}\n")?;
     let got = run_over(&rt, rt.alloc(), input.as_bytes(), 4096, 100_000, (0, 0))?;
     assert_eq!(rt; got.status, 0);
+    assert_eq!(rt; got.slots, Some((256, 256)));
     let end = b"{\"error\":\"too many names\"}\n{\"scalars\":2,\"utf16\":2,\"utf8\":2}\n";
     assert!(rt; got.written.ends_with(end));
     Ok(())

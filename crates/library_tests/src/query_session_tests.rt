@@ -6,8 +6,8 @@ use query_lines::{LineError, read_line, reply_text};
 use query_session::Session;
 use std::alloc::Global;
 use std::thread::Threads;
-use str_value::Pass;
-use text_spec::OutOfMemory;
+use text_spec::{OutOfMemory, TextList};
+use value_heaps::{layout, opened};
 
 /// The text of the reply to a line, or nothing where the line is no command.
 fn answer<R: Threads + Sync>(
@@ -105,12 +105,16 @@ fn lines_get_the_replies_worked_out_by_hand(rt: HostRuntime) -> Result<(), OutOf
             r#"{"results":[{"utf16":63,"utf8":126,"value":128512},{"utf16":63,"utf8":126,"value":128512},{"utf16":127,"utf8":254,"value":233},{"text":"é😀"},{"count":127}]}"#,
         ),
     ];
-    let mut session = Session::new(rt.alloc(), Pass::none(), 1)?;
+    let literals = TextList::new(rt.alloc());
+    let opened = opened(rt.alloc(), &layout(256, 8_192, 4_096), &literals);
+    let (heap, whole) = opened.expect(&rt, "no heap");
+    let mut session = Session::new(rt.alloc(), heap.pass(whole), 1)?;
     for (line, wanted) in rows {
         let reply = answer(&rt, rt.alloc(), &mut session, line.as_bytes())?;
         assert_eq!(rt; reply.as_slice(), wanted.as_bytes(), "{line}");
     }
-    let _pass = session.end();
+    let whole = session.end().end();
+    assert!(rt; whole.is_ok(), "a credit did not come back");
     Ok(())
 }
 
@@ -199,12 +203,16 @@ fn names_are_copied_dropped_and_compared(rt: HostRuntime) -> Result<(), OutOfMem
             r#"{"results":[{"text":"é"}]}"#,
         ),
     ];
-    let mut session = Session::new(rt.alloc(), Pass::none(), 1)?;
+    let literals = TextList::new(rt.alloc());
+    let opened = opened(rt.alloc(), &layout(256, 8_192, 4_096), &literals);
+    let (heap, whole) = opened.expect(&rt, "no heap");
+    let mut session = Session::new(rt.alloc(), heap.pass(whole), 1)?;
     for (line, wanted) in rows {
         let reply = answer(&rt, rt.alloc(), &mut session, line.as_bytes())?;
         assert_eq!(rt; reply.as_slice(), wanted.as_bytes(), "{line}");
     }
-    let _pass = session.end();
+    let whole = session.end().end();
+    assert!(rt; whole.is_ok(), "a credit did not come back");
     Ok(())
 }
 
@@ -258,7 +266,10 @@ fn refused_lines_and_ops_leave_every_name(rt: HostRuntime) -> Result<(), OutOfMe
         (r#"{"drop":"c"}"#, r#"{"error":"no name","name":"c"}"#),
         (r#"{"drop":"zz"}"#, r#"{"error":"no name","name":"zz"}"#),
     ];
-    let mut session = Session::new(rt.alloc(), Pass::none(), 1)?;
+    let literals = TextList::new(rt.alloc());
+    let opened = opened(rt.alloc(), &layout(256, 8_192, 4_096), &literals);
+    let (heap, whole) = opened.expect(&rt, "no heap");
+    let mut session = Session::new(rt.alloc(), heap.pass(whole), 1)?;
     for line in [r#"{"load":"a","text":"abc"}"#, r#"{"load":"b","text":"é"}"#] {
         let _reply = answer(&rt, rt.alloc(), &mut session, line.as_bytes())?;
     }
@@ -274,13 +285,17 @@ fn refused_lines_and_ops_leave_every_name(rt: HostRuntime) -> Result<(), OutOfMe
             );
         }
     }
-    let _pass = session.end();
+    let whole = session.end().end();
+    assert!(rt; whole.is_ok(), "a credit did not come back");
     Ok(())
 }
 
 #[test]
 fn no_more_than_256_names_are_in_use(rt: HostRuntime) -> Result<(), OutOfMemory> {
-    let mut session = Session::new(rt.alloc(), Pass::none(), 8)?;
+    let literals = TextList::new(rt.alloc());
+    let opened = opened(rt.alloc(), &layout(256, 8_192, 4_096), &literals);
+    let (heap, whole) = opened.expect(&rt, "no heap");
+    let mut session = Session::new(rt.alloc(), heap.pass(whole), 8)?;
     let first = br#"{"load":"n0","text":"x"}"#;
     let _reply = answer(&rt, rt.alloc(), &mut session, first)?;
     for number in 1..256_u32 {
@@ -336,6 +351,7 @@ fn no_more_than_256_names_are_in_use(rt: HostRuntime) -> Result<(), OutOfMemory>
         let reply = answer(&rt, rt.alloc(), &mut session, line.as_bytes())?;
         assert_eq!(rt; reply.as_slice(), wanted.as_bytes(), "{line}");
     }
-    let _pass = session.end();
+    let whole = session.end().end();
+    assert!(rt; whole.is_ok(), "a credit did not come back");
     Ok(())
 }

@@ -1,7 +1,7 @@
 use Rattle.std.proofs.Common.{arith, ◌∙◌}
 use Rattle.text_spec.proofs.Walk.{start-zero}
-use Rattle.str_value.proofs.Parts.{start-boundary}
-use Rattle.library_tests.proofs.str_value_tests.whole.Goals as goal
+use Rattle.str_value.proofs.Between.{start-boundary}
+use Rattle.library_tests.proofs.heaps.whole.Goals as goal
 
 pub copy_utf8-requires-clause-low : goal.copy_utf8-requires-clause-low
 copy_utf8-requires-clause-low c = start-boundary _ _ 0 _ (omega arith) c.low-low.ensures.value

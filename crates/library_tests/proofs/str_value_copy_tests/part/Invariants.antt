@@ -1,4 +1,0 @@
-use Rattle.library_tests.proofs.str_value_copy_tests.part.Given as goal
-
-abbrev pub ghosts-part_with : goal.ghosts-part_with
-ghosts-part_with a = record { name = a.blank.name; parts = a.blank.parts }

@@ -1,4 +1,0 @@
-use Rattle.library_tests.proofs.str_value_tests.words.Given as goal
-
-abbrev pub ghosts-words_with : goal.ghosts-words_with
-ghosts-words_with a = record { name = a.blank.name; parts = a.blank.parts }
