@@ -1,6 +1,6 @@
 //! Times the crates of shared storage: histories checked; by one owner and by two in threads, slots published and
 //! released, one slot retained and released, and one asked for its side; UTF-16 offsets of a text asked, with its breadcrumbs and
-//! without.
+//! without; values made, read, copied and asked, in slots and in vectors.
 //!
 //! Standard output tells what was done and is the same in each run; standard error tells the milliseconds.
 #![tactic(auto)]
@@ -11,6 +11,7 @@ mod looks;
 mod owners;
 mod pairs;
 mod places;
+mod values;
 
 use anyhow::Result;
 use copies::Copies;
@@ -29,5 +30,7 @@ fn main(rt: HostRuntime) -> Result<()> {
     two_owners::<Looks>(&rt, rt.alloc(), 5_000_000)?;
     places::ask(&rt, rt.alloc(), 1_000_000, true)?;
     places::ask(&rt, rt.alloc(), 10_000, true)?;
-    places::ask(&rt, rt.alloc(), 10_000, false)
+    places::ask(&rt, rt.alloc(), 10_000, false)?;
+    values::time(&rt, rt.alloc(), 16)?;
+    values::time(&rt, rt.alloc(), 0)
 }
