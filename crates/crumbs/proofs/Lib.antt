@@ -1,6 +1,7 @@
 pub mod Crumbing
 pub mod Indexed
 pub mod Seeing
+pub mod Spreading
 pub mod Growing
 pub mod Windows
 pub mod Matching

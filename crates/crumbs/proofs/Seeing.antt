@@ -1,5 +1,5 @@
 -- Scalars and UTF-16 units, counted byte by byte.
-use Rattle.std.proofs.Common.{◌≡◌, sym, ap, subst, ◌∙◌, ℕ, suc, ◌+◌, ◌-◌, ◌*◌, ◌/◌, ◌%◌, ◌^◌, ◌<◌, ◌≤◌, ◌≢◌, Some, inl, inr, ⊎_elim, true, nat_lt, if◌then◌else◌, List, [], ◌∷◌, length, get_or, arith}
+use Rattle.std.proofs.Common.{◌≡◌, refl, sym, ap, subst, ◌∙◌, ℕ, zero, suc, min, ◌+◌, ◌-◌, ◌*◌, ◌/◌, ◌%◌, ◌^◌, ◌<◌, ◌≤◌, Some, inl, inr, ⊎_elim, true, nat_lt, if◌then◌else◌, List, [], ◌∷◌, length, get_or, arith}
 use Rattle.std.proofs.lemmas.Bool.{cases_lt, cond-true, cond-false, lt-ltb, le-ltb}
 use Rattle.std.specs.Char.{encode_utf8, len_utf8}
 use Rattle.std.specs.Str.{all_scalars, encode_utf8_all}
@@ -11,11 +11,12 @@ use Rattle.text_spec.specs.Packed.{denoted_text}
 use Rattle.text_spec.specs.Views.{size_in}
 use Rattle.text_spec.proofs.Denoting.{denoted_as, utf8_words}
 use Rattle.index_words.specs.Crumbs.{size16, index_word8, index16}
-use Rattle.crumbs.specs.Counting.{units_begun, Seen}
+use Rattle.crumbs.specs.Counting.{units_begun, units_within, Seen}
 use Rattle.text_spec.proofs.Walk.{start-zero, start-suc, start-le, start-mono, down-start, down-unique, down-end}
 use Rattle.text_spec.proofs.Bytes.{length-utf8, covered, byte-after, lead-boundary, decoded, Decoded}
 use Rattle.text_spec.proofs.Widths.{len8_some}
 use Rattle.crumbs.proofs.Crumbing.{index16-at}
+use Rattle.crumbs.proofs.Spreading.{within_more}
 
 pub len_small : (c : ℕ) → c < 65536 → len_utf8 c ≤ 3
 len_small c h =
@@ -163,9 +164,42 @@ stepped e ws n b p reached word wide same long is seen inside here takes =
       units = subst (λ x. (o : ℕ) → reached ≤ o → o < reached + x → index16 b o ≡ index_word8 p (o - reached)) told (seen_units b w.scalars p reached seen below);
     }
 
--- the word at hand is that of the next byte too, within a word
-pub same_word : (ws : List ℕ) (p word : ℕ) → word ≡ get_or ws (p / 8) 0 → (p + 1) % 8 ≢ 0 → word ≡ get_or ws ((p + 1) / 8) 0
-same_word ws p word here inside = let e : p / 8 ≡ (p + 1) / 8 = omega arith in here ∙ ap (λ i. get_or ws i 0) e
+-- the same at byte j of content word k
+pub stepped_in : (e : Encoding) (ws : List ℕ) (n : ℕ) (b : List ℕ) (k j reached word wide : ℕ) → e ≡ Utf8 → n ≡ size_in e b → denoted_text e ws n ≡ Some b
+    → Seen b (8 * k + j) reached → j < 8 → 8 * k + j < n → word ≡ get_or ws k 0 → wide ≡ units_begun (word / 2 ^ (8 * j) % 256) → Stepped b (8 * k + j) reached (reached + wide)
+stepped_in e ws n b k j reached word wide same long is seen low inside here takes =
+    let p = 8 * k + j in
+    let at : k ≡ p / 8 = omega arith in
+    let place : j ≡ p % 8 = omega arith in
+    stepped e ws n b p reached word wide same long is seen inside (here ∙ ap (λ i. get_or ws i 0) at) (takes ∙ ap (λ i. units_begun (word / 2 ^ (8 * i) % 256)) place)
+
+-- and of its first bytes together
+seen_bytes : (e : Encoding) (ws : List ℕ) (n : ℕ) (b : List ℕ) (k reached word : ℕ) → e ≡ Utf8 → n ≡ size_in e b → denoted_text e ws n ≡ Some b
+    → word ≡ get_or ws k 0 → Seen b (8 * k) reached → (j : ℕ) → j ≤ 8 → 8 * k + j ≤ n → Seen b (8 * k + j) (reached + units_within j word)
+seen_bytes e ws n b k reached word same long is here seen zero most inside =
+    let place : 8 * k ≡ 8 * k + 0 = omega arith in
+    let units : reached ≡ reached + 0 = omega arith in
+    subst (λ p. Seen b p (reached + 0)) place (subst (Seen b (8 * k)) units seen)
+seen_bytes e ws n b k reached word same long is here seen (suc j) most inside =
+    let before = seen_bytes e ws n b k reached word same long is here seen j (omega arith) (omega arith) in
+    let step = stepped_in e ws n b k j (reached + units_within j word) word _ same long is before (omega arith) (omega arith) here refl in
+    let place : 8 * k + j + 1 ≡ 8 * k + suc j = omega arith in
+    let next : j + 1 ≡ suc j = omega arith in
+    let units : reached + units_within j word + units_begun (word / 2 ^ (8 * j) % 256) ≡ reached + units_within (suc j) word = omega (arith, within_more j word, ap (λ m. units_within m word) next) in
+    subst (λ p. Seen b p (reached + units_within (suc j) word)) place (subst (Seen b (8 * k + j + 1)) units step.more)
+
+-- where word k begins, or the text ends before it
+abbrev pub place_of_word : ℕ → ℕ → ℕ
+place_of_word count k = min (8 * k) count
+
+pub seen_word : (e : Encoding) (ws : List ℕ) (n : ℕ) (b : List ℕ) (k reached word size : ℕ) → e ≡ Utf8 → n ≡ size_in e b → denoted_text e ws n ≡ Some b
+    → Seen b (place_of_word n k) reached → 8 * k < n → word ≡ get_or ws k 0 → size ≡ min 8 (n - 8 * k)
+    → Seen b (place_of_word n (k + 1)) (reached + units_within size word)
+seen_word e ws n b k reached word size same long is seen inside here bytes =
+    let first : min (8 * k) n ≡ 8 * k = omega arith in
+    let last : 8 * k + size ≡ min (8 * (k + 1)) n = omega arith in
+    subst (λ p. Seen b p (reached + units_within size word)) last
+    (seen_bytes e ws n b k reached word same long is here (subst (λ p. Seen b p reached) first seen) size (omega arith) (omega arith))
 
 -- at the end all units are counted, and the last index is that of the end
 pub seen_end : (e : Encoding) (n : ℕ) (b : List ℕ) (p reached : ℕ) → e ≡ Utf8 → n ≡ size_in e b → Seen b p reached → p ≡ n → reached ≡ size16 b

@@ -1,20 +1,24 @@
-//! UTF-16 units counted over the bytes of a text in UTF-8 storage, where each word is read once.
-ghost use Rattle.std.specs.Prelude.{◌≡◌, ◌≢◌, ◌+◌, ◌*◌, ◌/◌, ◌%◌, ◌^◌, ◌<◌, ◌≤◌, slice_index};
+//! UTF-16 units counted over the words of a text in UTF-8 storage, each of which is read once.
+ghost use Rattle.std.specs.Prelude.{◌≡◌, ◌+◌, ◌-◌, ◌*◌, ◌/◌, ◌%◌, ◌^◌, ◌<◌, ◌≤◌, min};
 ghost use Rattle.text_spec.specs.declared.encoding.Encoding.TheVariants.{Utf8};
 ghost use Rattle.index_words.specs.Crumbs.{size16};
 ghost use Rattle.text_spec.specs.Packed.{content_words};
 ghost use Rattle.text_spec.specs.Views.{size_in};
-ghost use Rattle.crumbs.specs.Counting.{units_begun};
+ghost use Rattle.crumbs.specs.Counting.{units_begun, units_within};
 
 use std::sync::ledger::Ledger;
 use word_units::{Steps, Text};
 
-/// How many UTF-16 units the scalar takes that byte `p` of the text begins, out of the word that holds it.
+/// The lowest bit of each byte of a word.
+const LOW_BITS: u64 = 0x0101_0101_0101_0101;
+
+/// How many UTF-16 units the scalar takes that byte `p` of a word begins.
 pub(crate) fn units_at(word: u64, p: u64) -> u64
-    ensures value { result ≡ units_begun ((word / 2 ^ (8 * (p % 8))) % 256) }
+    requires { p < 8 }
+    ensures value { result ≡ units_begun ((word / 2 ^ (8 * p)) % 256) }
     ensures few { result ≤ 2 }
 {
-    let byte = (word >> (8 * (p % 8))) % 256;
+    let byte = (word >> (8 * p)) % 256;
     if byte < 128 {
         1
     } else if byte < 192 {
@@ -26,20 +30,42 @@ pub(crate) fn units_at(word: u64, p: u64) -> u64
     }
 }
 
-/// The word of byte `p`, which is read where `p` is its first byte and is otherwise at hand.
-pub(crate) fn word_at<T: Text, L: Ledger>(t: &mut T, held: u64, p: u64, steps: &mut Steps<L>) -> u64
-    requires storage { (T.part t.old).storage ≡ Utf8 }
-    requires inside { p < size_in Utf8 (T.part t.old).whole }
-    requires held { p % 8 ≢ 0 → held ≡ slice_index (T.words t.old) (p / 8) }
-    ensures value { result ≡ slice_index (T.words t.old) (p / 8) }
-    ensures kept { t.new ≡ t.old }
-    ensures cost { steps.new + (p + 7) / 8 ≡ steps.old + (p + 8) / 8 }
+/// How many UTF-16 units the scalars take that begin in a word.
+///
+/// A byte whose first two bits are 10 begins none of them, one whose first four bits are ones two, and any other one
+/// (The Unicode Standard, table 3-6). They are counted at all bytes at once, and then added up.
+fn units_in(word: u64) -> u64
+    ensures value { result ≡ units_within 8 word }
+    ensures few { result ≤ 16 }
 {
-    if p % 8 == 0 {
-        t.word(p / 8, steps)
-    } else {
-        held
+    let first = LOW_BITS & (word >> 7);
+    let second = first & (word >> 6);
+    let fourth = second & (word >> 5) & (word >> 4);
+    (LOW_BITS - first + second + fourth) % 255
+}
+
+/// How many bytes of a text that has `count` stand in content word `k`: 1 to 8.
+pub(crate) fn bytes_in(k: u64, count: u64) -> u64
+    requires { 8 * k < count }
+    ensures { result ≡ min 8 (count - 8 * k) }
+{
+    let left = count - 8 * k;
+    if left < 8 { left } else { 8 }
+}
+
+/// How many UTF-16 units the scalars take that begin in a word, of a text of which `left` bytes stand in that word and those after it.
+pub(crate) fn units_before(word: u64, left: u64) -> u64
+    ensures value { result ≡ units_within (min 8 left) word }
+    ensures few { result ≤ 16 }
+{
+    if left >= 8 {
+        return units_in(word);
     }
+    let mut units = 0;
+    'bytes: for p in 0..left {
+        units += units_at(word, p);
+    }
+    units
 }
 
 /// How many UTF-16 units a text in UTF-8 storage has. Each word is read once.
@@ -50,11 +76,10 @@ pub(crate) fn count_units<T: Text, L: Ledger>(t: &mut T, steps: &mut Steps<L>) -
     ensures cost { steps.new ≡ steps.old + content_words Utf8 (size_in Utf8 (T.part t.old).whole) }
 {
     let count = t.count();
-    let mut word = 0;
     let mut reached = 0;
-    'bytes: for p in 0..count {
-        word = word_at(t, word, p, steps);
-        reached += units_at(word, p);
+    'words: for k in 0..(count + 7) / 8 {
+        let word = t.word(k, steps);
+        reached += units_before(word, count - 8 * k);
     }
     reached
 }

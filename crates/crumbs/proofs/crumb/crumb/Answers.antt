@@ -1,5 +1,5 @@
 use Rattle.std.proofs.Common.{◌≡◌, true, false, ◌∙◌, ◌*◌, arith}
-use Rattle.index_words.specs.Crumbs.{size16, index16}
+use Rattle.index_words.specs.Crumbs.{size16}
 use Rattle.crumbs.proofs.Crumbing.{size16-le, quotient_le, multiple_in, index16-word, crumb_read}
 use Rattle.crumbs.proofs.crumb.crumb.Goals as goal
 

@@ -1,5 +1,4 @@
 use Rattle.std.proofs.Common.{◌∙◌, ◌*◌}
-use Rattle.index_words.specs.Crumbs.{crumbs}
 use Rattle.crumbs.proofs.Crumbing.{crumbs-at}
 use Rattle.crumbs.proofs.Indexed.{index_is}
 use Rattle.crumbs.proofs.laws.crumbs_are_indices_of_their_offsets.Goals as goal

@@ -1,4 +1,3 @@
-use Rattle.index_words.specs.Crumbs.{crumbs}
 use Rattle.crumbs.proofs.Crumbing.{length-crumbs}
 use Rattle.crumbs.proofs.laws.lists_have_a_word_for_each_stride.Goals as goal
 

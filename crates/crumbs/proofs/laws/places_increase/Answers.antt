@@ -1,4 +1,3 @@
-use Rattle.index_words.specs.Crumbs.{index16}
 use Rattle.crumbs.proofs.Crumbing.{index16-increases}
 use Rattle.crumbs.proofs.laws.places_increase.Goals as goal
 

@@ -1,23 +1,20 @@
-use Rattle.std.proofs.Common.{◌≡◌, Some, refl, ap, subst, ◌∙◌, ℕ, List, ◌+◌, ◌*◌, ◌/◌, ◌%◌, ◌^◌, ◌<◌, [], ◌∷◌, ◌++◌, get_or, arith}
+use Rattle.std.proofs.Common.{◌≡◌, refl, sym, ap, subst, ◌∙◌, ℕ, List, ◌+◌, ◌-◌, ◌*◌, ◌/◌, ◌<◌, ◌≤◌, min, [], ◌∷◌, ◌++◌, get_or, arith}
 use Rattle.index_words.specs.Crumbs.{size16, index16}
-use Rattle.text_spec.specs.declared.encoding.Encoding.TheVariants.{Utf8}
-use Rattle.text_spec.specs.Packed.{denoted_text}
-use Rattle.text_spec.specs.Views.{size_in}
-use Rattle.crumbs.specs.Counting.{Seen, units_begun, crumbs_below}
+use Rattle.crumbs.specs.Counting.{Seen, units_within, crumbs_below}
 use Rattle.crumbs.proofs.Crumbing.{size16-le}
-use Rattle.crumbs.proofs.Seeing.{Stepped, stepped, same_word, seen_none, seen_end, end_units, long8, words_most}
+use Rattle.crumbs.proofs.Seeing.{place_of_word, seen_word, seen_none, seen_end, end_units, long8, words_most}
 use Rattle.crumbs.proofs.Growing.{below_all, few_from_last, room_left, grown}
-use Rattle.crumbs.proofs.listing.build.Given.{Over}
+use Rattle.crumbs.proofs.listing.build.Goals.{then-number-stride, else-number-stride}
 use Rattle.crumbs.proofs.listing.build.Goals as goal
 
-pub bytes-init : goal.bytes-init
-bytes-init g c =
+pub words-init : goal.words-init
+words-init g c =
     let b = (g.T.Text.part c.args.t.now).whole in
     let d = c.args.draft.now in
+    let first : 0 ≡ place_of_word c.count-count.result 0 = omega arith in
     record {
       same = c.count_units.ensures.kept;
-      seen = seen_none b;
-      held = λ h. absurd (h refl);
+      seen = subst (λ p. Seen b p 0) first (seen_none b);
       written = c.write.ensures ∙ ap (λ (w : ℕ). record d { written = d.written ++ (w ∷ []) }) c.count_units.ensures.units;
       small = omega (arith, size16-le (g.T.Text.part c.args.t.now).storage b, c.count-count.ensures.value, c.count-count.ensures.small);
       due = omega arith;
@@ -26,88 +23,89 @@ bytes-init g c =
       cost = omega arith;
     }
 
--- the text is as it was, the word is that of byte p, and the byte is one more of it
-record Here (g : Over) (old now : g.row.T.Denot) (p reached word stop : ℕ) : Type 0 where
-  same : now ≡ old
-  word_is : word ≡ get_or (g.T.Text.words old) (p / 8) 0
-  step : Stepped (g.T.Text.part old).whole p reached stop
+pub write_word-number-requires-clause-seen : goal.write_word-number-requires-clause-seen
+write_word-number-requires-clause-seen g c =
+    let l = c.words in
+    let same = c.word-word.ensures.kept ∙ l.invariant.same in
+    let first : place_of_word c.count-count.result l.k ≡ 8 * l.k = omega arith in
+    subst (λ v. Seen (g.T.Text.part v).whole (8 * l.k) l.reached) (sym same) (subst (λ p. Seen (g.T.Text.part c.args.t.now).whole p l.reached) first l.invariant.seen)
 
-here : (g : Over) (old held now : g.row.T.Denot) (p reached count word wide : ℕ) → (g.T.Text.part old).storage ≡ Utf8 → count ≡ size_in (g.T.Text.part old).storage (g.T.Text.part old).whole
-    → denoted_text (g.T.Text.part old).storage (g.T.Text.words old) count ≡ Some (g.T.Text.part old).whole → Seen (g.T.Text.part old).whole p reached → p < count
-    → held ≡ old → now ≡ held → word ≡ get_or (g.T.Text.words held) (p / 8) 0 → wide ≡ units_begun (word / 2 ^ (8 * (p % 8)) % 256) → Here g old now p reached word (reached + wide)
-here g old held now p reached count word wide utf8 long denotes seen inside before kept is takes =
-    let word_is : word ≡ get_or (g.T.Text.words old) (p / 8) 0 = is ∙ ap (λ v. get_or (g.T.Text.words v) (p / 8) 0) before in
-    record {
-      same = kept ∙ before;
-      word_is = word_is;
-      step = stepped (g.T.Text.part old).storage (g.T.Text.words old) count (g.T.Text.part old).whole p reached word wide utf8 long denotes seen inside word_is takes;
-    }
-
-pub write_due-number-requires-clause-units : goal.write_due-number-requires-clause-units
-write_due-number-requires-clause-units g c =
-    let h = here g _ _ _ c.bytes.p c.bytes.reached _ _ _ c.requires.storage c.count-count.ensures.value c.count-count.ensures.denotes c.bytes.invariant.seen (omega arith)
-    c.bytes.invariant.same c.word_at-word.ensures.kept c.word_at-word.ensures.value c.units_at.ensures.value in
-    λ o low high. ap (λ v. index16 (g.T.Text.part v).whole o) h.same ∙ h.step.units o low high
-
-pub write_due-number-requires-clause-inside : goal.write_due-number-requires-clause-inside
-write_due-number-requires-clause-inside g c =
-    let h = here g _ _ _ c.bytes.p c.bytes.reached _ _ _ c.requires.storage c.count-count.ensures.value c.count-count.ensures.denotes c.bytes.invariant.seen (omega arith)
-    c.bytes.invariant.same c.word_at-word.ensures.kept c.word_at-word.ensures.value c.units_at.ensures.value in
-    let in_text : size16 (g.T.Text.part c.word_at-word.new.t).whole ≡ size16 (g.T.Text.part c.args.t.now).whole = ap (λ v. size16 (g.T.Text.part v).whole) h.same in
-    omega (arith, in_text, h.step.more.units_in)
-
-pub write_due-number-requires-clause-room : goal.write_due-number-requires-clause-room
-write_due-number-requires-clause-room g c =
-    let same = c.word_at-word.ensures.kept ∙ c.bytes.invariant.same in
+pub write_word-number-requires-clause-room : goal.write_word-number-requires-clause-room
+write_word-number-requires-clause-room g c =
+    let same = c.word-word.ensures.kept ∙ c.words.invariant.same in
     let n = g.T.Text.STRIDE in
-    let in_text : size16 (g.T.Text.part c.word_at-word.new.t).whole / n ≡ size16 (g.T.Text.part c.args.t.now).whole / n = ap (λ v. size16 (g.T.Text.part v).whole / n) same in
-    omega (arith, in_text, room_left (g.T.Text.part c.args.t.now).whole n c.bytes.number c.args.draft.now c.bytes.draft c.bytes.invariant.written c.requires.room)
+    let in_text : size16 (g.T.Text.part c.word-word.new.self).whole / n ≡ size16 (g.T.Text.part c.args.t.now).whole / n = ap (λ v. size16 (g.T.Text.part v).whole / n) same in
+    omega (arith, in_text, room_left (g.T.Text.part c.args.t.now).whole n c.words.number c.args.draft.now c.words.draft c.words.invariant.written c.requires.room)
 
-pub bytes-preserved : goal.bytes-preserved
-bytes-preserved g c =
-    let h = here g _ _ _ c.bytes.p c.bytes.reached _ _ _ c.requires.storage c.count-count.ensures.value c.count-count.ensures.denotes c.bytes.invariant.seen (omega arith)
-    c.bytes.invariant.same c.word_at-word.ensures.kept c.word_at-word.ensures.value c.units_at.ensures.value in
+pub words-preserved : goal.words-preserved
+words-preserved g c =
+    let ws = g.T.Text.words c.args.t.now in
     let b = (g.T.Text.part c.args.t.now).whole in
     let n = g.T.Text.STRIDE in
-    let l = c.bytes in
-    let e = c.write_due-number.ensures in
-    let r = c.write_due-number.result in
-    let more : (front : List ℕ) → l.draft.written ≡ front ++ crumbs_below b n l.number → c.write_due-number.new.draft ≡ record l.draft { written = front ++ crumbs_below b n r } =
-    subst (λ v. (front : List ℕ) → l.draft.written ≡ front ++ crumbs_below (g.T.Text.part v).whole n l.number → c.write_due-number.new.draft ≡ record l.draft { written = front ++ crumbs_below (g.T.Text.part v).whole n r })
-    h.same e.written in
-    record {
-      same = h.same;
-      seen = h.step.more;
-      held = same_word (g.T.Text.words c.args.t.now) l.p c.word_at-word.result h.word_is;
-      written = grown b n l.number c.args.draft.now l.draft l.invariant.written r c.write_due-number.new.draft more;
-      small = l.invariant.small;
-      due = e.due;
-      few = omega (arith, few_from_last r n (l.reached + c.units_at.result) c.requires.some.0 e.last);
-      last = e.last;
-      cost = omega arith;
-    }
+    let l = c.words in
+    let d = c.args.draft.now in
+    let same = c.word-word.ensures.kept ∙ l.invariant.same in
+    let word : c.word-word.result ≡ get_or ws l.k 0 = c.word-word.ensures.value ∙ ap (λ v. get_or (g.T.Text.words v) l.k 0) l.invariant.same in
+    let sized = seen_word (g.T.Text.part c.args.t.now).storage ws c.count-count.result b l.k l.reached c.word-word.result (min 8 (c.count-count.result - 8 * l.k))
+    c.requires.storage c.count-count.ensures.value c.count-count.ensures.denotes l.invariant.seen (omega arith) word refl in
+    let units : l.reached + units_within (min 8 (c.count-count.result - 8 * l.k)) c.word-word.result ≡ l.reached + c.units_before.result = omega (arith, c.units_before.ensures.value) in
+    let seen : Seen b (place_of_word c.count-count.result (l.k + 1)) (l.reached + c.units_before.result) = subst (Seen b (place_of_word c.count-count.result (l.k + 1))) units sized in
+    elim c.if-number-stride.branch [
+      | then-number-stride w ↦
+          let e = w.write_word-number.ensures in
+          let r = w.write_word-number.result in
+          let more : (front : List ℕ) → l.draft.written ≡ front ++ crumbs_below b n l.number → w.write_word-number.new.draft ≡ record l.draft { written = front ++ crumbs_below b n r } =
+          subst (λ v. (front : List ℕ) → l.draft.written ≡ front ++ crumbs_below (g.T.Text.part v).whole n l.number → w.write_word-number.new.draft ≡ record l.draft { written = front ++ crumbs_below (g.T.Text.part v).whole n r })
+          same e.written in
+          let size : units_within w.bytes_in-size.result c.word-word.result ≡ units_within (min 8 (c.count-count.result - 8 * l.k)) c.word-word.result = ap (λ j. units_within j c.word-word.result) w.bytes_in-size.ensures in
+          let due : l.reached + c.units_before.result ≤ r * n = omega (arith, units, size, e.due) in
+          let last : 0 < r → (r - 1) * n < l.reached + c.units_before.result = λ h. omega (arith, units, size, e.last h) in
+          record {
+            same = same;
+            seen = seen;
+            written = w.draft-is ∙ grown b n l.number d l.draft l.invariant.written r w.write_word-number.new.draft more ∙ ap (λ m. record d { written = d.written ++ crumbs_below b n m }) (sym w.number-is);
+            small = l.invariant.small;
+            due = subst (λ m. l.reached + c.units_before.result ≤ m * n) (sym w.number-is) due;
+            few = omega (arith, w.number-is, few_from_last r n (l.reached + c.units_before.result) c.requires.some.0 last);
+            last = subst (λ m. 0 < m → (m - 1) * n < l.reached + c.units_before.result) (sym w.number-is) last;
+            cost = omega arith;
+          }
+      | else-number-stride w ↦
+          let due : l.reached + c.units_before.result ≤ l.number * n = rw c.stride-stride.ensures at w.if-number-stride.false in
+          record {
+            same = same;
+            seen = seen;
+            written = w.draft-is ∙ l.invariant.written ∙ ap (λ m. record d { written = d.written ++ crumbs_below b n m }) (sym w.number-is);
+            small = l.invariant.small;
+            due = subst (λ m. l.reached + c.units_before.result ≤ m * n) (sym w.number-is) due;
+            few = omega (arith, w.number-is, l.invariant.few);
+            last = subst (λ m. 0 < m → (m - 1) * n < l.reached + c.units_before.result) (sym w.number-is) (λ h. omega (arith, l.invariant.last h));
+            cost = omega arith;
+          }
+    ]
 
 pub write_due-requires-clause-units : goal.write_due-requires-clause-units
 write_due-requires-clause-units g c =
-    let l = c.bytes in
+    let l = c.words in
     λ o low high. ap (λ v. index16 (g.T.Text.part v).whole o) l.invariant.same
-    ∙ end_units (g.T.Text.part c.args.t.now).storage c.count-count.result (g.T.Text.part c.args.t.now).whole l.p l.reached c.requires.storage c.count-count.ensures.value l.invariant.seen (omega arith) o low high
+    ∙ end_units (g.T.Text.part c.args.t.now).storage c.count-count.result (g.T.Text.part c.args.t.now).whole (place_of_word c.count-count.result l.k) l.reached
+    c.requires.storage c.count-count.ensures.value l.invariant.seen (omega arith) o low high
 
 pub write_due-requires-clause-room : goal.write_due-requires-clause-room
 write_due-requires-clause-room g c =
     let n = g.T.Text.STRIDE in
-    let in_text : size16 (g.T.Text.part c.bytes.t).whole / n ≡ size16 (g.T.Text.part c.args.t.now).whole / n = ap (λ v. size16 (g.T.Text.part v).whole / n) c.bytes.invariant.same in
-    omega (arith, in_text, room_left (g.T.Text.part c.args.t.now).whole n c.bytes.number c.args.draft.now c.bytes.draft c.bytes.invariant.written c.requires.room)
+    let in_text : size16 (g.T.Text.part c.words.t).whole / n ≡ size16 (g.T.Text.part c.args.t.now).whole / n = ap (λ v. size16 (g.T.Text.part v).whole / n) c.words.invariant.same in
+    omega (arith, in_text, room_left (g.T.Text.part c.args.t.now).whole n c.words.number c.args.draft.now c.words.draft c.words.invariant.written c.requires.room)
 
 pub returns-clause-written : goal.returns-clause-written
 returns-clause-written g c =
     let b = (g.T.Text.part c.args.t.now).whole in
     let n = g.T.Text.STRIDE in
-    let l = c.bytes in
+    let l = c.words in
     let d = c.args.draft.now in
     let e = c.write_due.ensures in
     let r = c.write_due.result in
-    let all = seen_end (g.T.Text.part c.args.t.now).storage c.count-count.result b l.p l.reached c.requires.storage c.count-count.ensures.value l.invariant.seen (omega arith) in
+    let all = seen_end (g.T.Text.part c.args.t.now).storage c.count-count.result b (place_of_word c.count-count.result l.k) l.reached c.requires.storage c.count-count.ensures.value l.invariant.seen (omega arith) in
     let more : (front : List ℕ) → l.draft.written ≡ front ++ crumbs_below b n l.number → c.write_due.new.draft ≡ record l.draft { written = front ++ crumbs_below b n r } =
     subst (λ v. (front : List ℕ) → l.draft.written ≡ front ++ crumbs_below (g.T.Text.part v).whole n l.number → c.write_due.new.draft ≡ record l.draft { written = front ++ crumbs_below (g.T.Text.part v).whole n r })
     l.invariant.same e.written in
@@ -118,4 +116,4 @@ pub returns-clause-few : goal.returns-clause-few
 returns-clause-few g c =
     let b = (g.T.Text.part c.args.t.now).whole in
     let long = long8 (g.T.Text.part c.args.t.now).storage c.count-count.result b c.requires.storage c.count-count.ensures.value in
-    omega (arith, words_most b, long, c.bytes.invariant.cost)
+    omega (arith, words_most b, long, c.words.invariant.cost)

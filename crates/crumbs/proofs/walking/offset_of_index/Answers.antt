@@ -11,7 +11,6 @@ use Rattle.crumbs.proofs.Crumbing.{size16-le}
 use Rattle.crumbs.proofs.Walks.{to_byte, last_unique, offset_within, offset_else}
 use Rattle.crumbs.proofs.WordsRead.{through-most}
 use Rattle.text_spec.proofs.Walk.{start-le}
-use Rattle.index_words.specs.Crumbs.{size16}
 use Rattle.word_units.specs.Parts.{all_of}
 use Rattle.crumbs.proofs.walking.offset_of_index.Given.{Over}
 use Rattle.crumbs.proofs.walking.offset_of_index.Goals as goal
