@@ -48,14 +48,15 @@ fn strip<'h, A: Attach>(pass: &mut Pass<'h, A>, reference: Ref<'h, A>) -> (Ref<'
     (reference, found)
 }
 
-/// Makes a reference its slot's only one without a side, and tells whether it is: where there is another, nothing is changed.
-pub(crate) fn ready<'h, A: Attach>(
-    pass: &mut Pass<'h, A>,
-    reference: Ref<'h, A>,
-) -> (Ref<'h, A>, bool)
+/// Readies a reference for edits in place: it is its slot's only one then, and there is no side. Whether it is.
+///
+/// The events are a Sole, unless the reference is known to be alone, and a Detach, unless there is known to be no side. Where there is
+/// another reference the Sole alone, and nothing else is changed. `pass` is of the same heap. It needs no spendable credit. No memory.
+pub fn ready<'h, A: Attach>(pass: &mut Pass<'h, A>, reference: Ref<'h, A>) -> (Ref<'h, A>, bool)
     requires heap { reference.heap ≡ pass.old.heap }
     requires clean { reference.places ≡ [] }
     ensures heap { pass.new.heap ≡ pass.old.heap }
+    ensures same_heap { result.0.heap ≡ pass.new.heap }
     ensures readied { result.1 ≡ true → IsReadied pass.old reference.entry pass.new result.0 }
     ensures shared { result.1 ≡ false → IsShared pass.old reference.entry pass.new result.0 }
     ensures credits { pass.new.credits ≡ pass.old.credits }

@@ -21,6 +21,6 @@ mod splicing;
 mod stored;
 
 pub use copying::replace_copied;
-pub use in_place::replace_in_place;
+pub use in_place::{ready, replace_in_place};
 pub use part::Part;
 pub use stored::{Outcome, Readied, replace, reserve};
