@@ -1,6 +1,8 @@
 pub mod Ascii
 pub mod Kept
 pub mod Made
+pub mod Overwritten
+pub mod Reserved
 pub mod Copied
 pub mod Crumbing
 pub mod Literals
@@ -15,3 +17,5 @@ pub mod Ranges
 pub mod Spliced
 pub mod Pieces
 pub mod Remaking
+pub mod Written
+pub mod Drafted

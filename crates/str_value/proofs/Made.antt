@@ -15,7 +15,8 @@ use Rattle.slot_accounts.specs.Account.{new_reference, Did}
 use Rattle.slot_accounts.proofs.Doing.{Did-nothing}
 use Rattle.slot_table.specs.Owners.{PassSeen, LiteralSeen}
 use Rattle.str_value.specs.Meaning.{Place, fixed, sole_of}
-use Rattle.str_value.specs.Making.{native_words, foreign_words, letting_go}
+use Rattle.str_value.specs.Making.{foreign_words, letting_go}
+use Rattle.slot_edits.specs.Texts.{native_count, native_words}
 use Rattle.str_value.specs.declared.storage.Storage.TheVariants.{Native, Foreign}
 use Rattle.str_value.specs.Stored.{content, counted, IsStored}
 use Rattle.word_units.proofs.Packed.{bytes-packed, units-packed}
@@ -23,15 +24,21 @@ use Rattle.word_units.proofs.Packed.{bytes-packed, units-packed}
 -- ---- UTF-8 in a slot
 module _ (object : ℕ × ℕ) (bytes : List ℕ) (ascii : Bool) (slot : ℕ) (d : Describes (native ascii ascii (length bytes) slot) object) (small : object.1 < 2 ^ 64)
     (fits : (i : ℕ) → slice_index bytes i < 2 ^ 8) where
-  native_count : counted (object.0 ∷ byte_words bytes) ≡ length bytes
-  native_count = (said (native ascii ascii (length bytes) slot) (object.0) (object.1) small d).count_read
+  native_count_read : counted (object.0 ∷ byte_words bytes) ≡ length bytes
+  native_count_read = (said (native ascii ascii (length bytes) slot) (object.0) (object.1) small d).count_read
 
   pub native-held : (words : List ℕ) → words ≡ object.0 ∷ byte_words bytes → bytes_of (content words) (counted words) ≡ bytes
   native-held words same =
-      ap (λ ws. bytes_of (content ws) (counted ws)) same ∙ ap (bytes_of (byte_words bytes)) native_count ∙ bytes-packed bytes fits
+      ap (λ ws. bytes_of (content ws) (counted ws)) same ∙ ap (bytes_of (byte_words bytes)) native_count_read ∙ bytes-packed bytes fits
 
   pub native-words : ascii ≡ is_ascii bytes → object.0 ∷ byte_words bytes ≡ native_words bytes
   native-words marked = ap (λ w. w ∷ byte_words bytes) (ap (λ w. w.0) (sym d.says) ∙ ap (λ a. count_word a a true true false (length bytes)) marked)
+
+  head_says : ascii ≡ is_ascii bytes → bytes_of (byte_words bytes) (counted (object.0 ∷ byte_words bytes)) ≡ bytes
+      → object.0 ≡ native_count (is_ascii (bytes_of (byte_words bytes) (counted (object.0 ∷ byte_words bytes)))) (counted (object.0 ∷ byte_words bytes))
+  head_says marked same =
+      ap (λ w. w.0) (sym d.says) ∙ ap (λ a. native_count a (length bytes)) (marked ∙ ap is_ascii (sym same))
+      ∙ ap (native_count (is_ascii (bytes_of (byte_words bytes) (counted (object.0 ∷ byte_words bytes))))) (sym native_count_read)
 
   new_stored : (z : HeapId) (front : List Event) → ascii ≡ is_ascii bytes → IsUtf8 bytes → length bytes ≤ 16777216
       → content_words Utf8 (length bytes) + 1 ≤ z.layout.capacity_words → IsStored object (Native (new_reference z front slot (object.0 ∷ byte_words bytes)) 0)
@@ -39,11 +46,12 @@ module _ (object : ℕ × ℕ) (bytes : List ℕ) (ascii : Bool) (slot : ℕ) (d
       let same = native-held (object.0 ∷ byte_words bytes) refl in
       let long = length-map-range_with_len (byte_word bytes) 0 (content_words Utf8 (length bytes)) in
       let text : IsUtf8 (bytes_of (byte_words bytes) (counted (object.0 ∷ byte_words bytes))) = subst IsUtf8 (sym same) ok in
-      let count = native_count in
+      let count = native_count_read in
       record {
         describes = subst (λ bs. Describes (native (is_ascii bs) (is_ascii bs) (length bs) slot) object) (sym same)
             (subst (λ a. Describes (native a a (length bytes) slot) object) marked d);
         kept = record {
+          says = head_says marked same;
           marked = (said (native ascii ascii (length bytes) slot) (object.0) (object.1) small d).utf16_bit;
           room = omega (arith, count, long);
           some = omega arith;

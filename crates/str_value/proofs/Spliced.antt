@@ -1,6 +1,7 @@
 -- A text with a part replaced, its UTF-8, and its mark of ASCII.
 use Rattle.std.proofs.Common.{◌≡◌, refl, sym, ap, subst, ◌∙◌, ℕ, suc, ◌+◌, ◌-◌, ◌^◌, ◌<◌, ◌≤◌, Vec, Global, List, [], ◌∷◌, ◌++◌, length, take, drop, get_or, slice_index, slice_range, length-append, Some, Bool, true, false, ◌&&◌, IsUtf8, chars, nat_lt, Result, Ok, Err, OnErr, ◌↔◌, arith}
 use Rattle.str_value.specs.declared.error.MakeError.{MakeError}
+use Rattle.str_value.specs.declared.wrote.Wrote.{Wrote}
 use Rattle.str_value.specs.declared.error.MakeError.TheVariants.{TooLong}
 use Rattle.text_spec.specs.declared.out_of_memory.OutOfMemory.{OutOfMemory}
 use Rattle.std.proofs.Math.Bool.{true-and, and-true, and-false, and_assoc}
@@ -94,7 +95,7 @@ length-splice xs ws l h order inside =
     omega (arith, length-append (take l xs) (ws ++ drop h xs), length-append ws (drop h xs), length-take-le l xs (omega arith), length-drop h xs)
 
 -- ---- the mark of ASCII
-ascii-append : (a b : List ℕ) → is_ascii (a ++ b) ≡ (is_ascii a && is_ascii b)
+pub ascii-append : (a b : List ℕ) → is_ascii (a ++ b) ≡ (is_ascii a && is_ascii b)
 ascii-append [] b = sym (true-and (is_ascii b))
 ascii-append (u ∷ a) b = ap (λ x. nat_lt u 128 && x) (ascii-append a b) ∙ sym (and_assoc (nat_lt u 128) (is_ascii a) (is_ascii b))
 
@@ -195,13 +196,13 @@ spliced-as now low high from to all with shown ok text same f t a order =
     record { is = s; long = l; size_is = sym l ∙ ap length s.bytes_are }
 
 -- the answers by length
-abbrev pub is_err_of : Result (Unit {0}) MakeError → MakeError → Type 0
+abbrev pub is_err_of : Result Wrote MakeError → MakeError → Type 0
 is_err_of r e = r ≡ Err e
 
 pub too-long : (m size : ℕ) → m ≡ size → 16777216 < m → (n : ℕ)
     → (is_err_of (Err (TooLong m)) (TooLong n)) ↔ ((n ≡ size) × (16777216 < n))
 too-long m size is over n = (λ e. let same : m ≡ n = cc in (sym same ∙ is, omega (arith, over, same)), λ p. ap (λ k. Err (TooLong k)) (is ∙ sym (p.0)))
 
-pub not-too-long : (r : Result (Unit {0}) MakeError) (size : ℕ) → ((n : ℕ) → ¬ (is_err_of r (TooLong n))) → size ≤ 16777216 → (n : ℕ)
+pub not-too-long : (r : Result Wrote MakeError) (size : ℕ) → ((n : ℕ) → ¬ (is_err_of r (TooLong n))) → size ≤ 16777216 → (n : ℕ)
     → (is_err_of r (TooLong n)) ↔ ((n ≡ size) × (16777216 < n))
 not-too-long r size other within n = (λ e. absurd (other n e), λ p. absurd (omega (arith, p.0, p.1, within)))

@@ -6,3 +6,4 @@ pub mod Learning
 pub mod Tied
 pub mod Leading
 pub mod Editing
+pub mod Drafting

@@ -6,12 +6,13 @@ use Rattle.slot_model.specs.declared.event.Event.TheVariants.{Publish}
 use Rattle.text_spec.specs.declared.encoding.Encoding.{Encoding}
 use Rattle.text_spec.specs.declared.encoding.Encoding.TheVariants.{Utf8, Utf16}
 use Rattle.text_spec.specs.Packed.{content_words}
-use Rattle.word_units.specs.Packing.{byte_words, unit_words}
+use Rattle.word_units.specs.Packing.{unit_words}
 use Rattle.object_words.specs.Rows.{Row, small, native, literal, foreign, owned, is_ascii}
 use Rattle.object_words.specs.CountWord.{count_word}
 use Rattle.object_words.specs.declared.layout.TheConstants.{SMALL_CAPACITY}
-use Rattle.slot_table.specs.Owners.{PassSeen}
+use Rattle.slot_table.specs.Owners.{PassSeen, RefSeen}
 use Rattle.slot_accounts.specs.Account.{Shows, giving_up, new_reference}
+use Rattle.slot_edits.specs.Texts.{native_words}
 use Rattle.str_value.specs.Meaning.{Meaning, Place, own, shared, fixed}
 
 -- a slot has room for a count word and so many code units, and the pass shows a free one and a credit
@@ -19,20 +20,21 @@ pub record HasRoom (p : PassSeen) (e : Encoding) (count : ℕ) : Type 0 where
   pub fits : content_words e count + 1 ≤ p.heap.layout.capacity_words
   pub shows : Shows p
 
--- the words that a text stands with in a slot, by its UTF-8 and by its UTF-16 units
-abbrev pub native_words : List ℕ → List ℕ
-native_words bytes = count_word (is_ascii bytes) (is_ascii bytes) true true false (length bytes) ∷ byte_words bytes
-
+-- the words that a text stands with in a slot, by its UTF-16 units
 abbrev pub foreign_words : List ℕ → List ℕ
 foreign_words units = count_word (is_ascii units) (is_ascii units) false false true (length units) ∷ unit_words units
+
+-- the value of these bytes stands as UTF-8 in the slot of r, which was just published: a slot has room for it, and the pass shows it
+abbrev pub IsPublishedUtf8 : PassSeen → PassSeen → List ℕ → RefSeen → Row → Type 0
+IsPublishedUtf8 p q bytes r row = HasRoom p Utf8 (length bytes) × (row ≡ native (is_ascii bytes) (is_ascii bytes) (length bytes) r.slot)
+    × (r ≡ new_reference p.heap q.front r.slot (native_words bytes))
 
 -- The value that the pass p makes of UTF-8: Small where the bytes fit the two words, Native where they fit a slot and the pass shows one, Owned elsewhere. The pass is q then.
 -- The mark of ASCII is exact, and only ASCII is known to be in NFC (Unicode Standard Annex 15).
 abbrev pub MadeOfUtf8 : PassSeen → PassSeen → List ℕ → Place → Row → Type 0
 MadeOfUtf8 p q bytes own row = (q ≡ p) × (((length bytes ≤ SMALL_CAPACITY) × (row ≡ small bytes))
     ⊎ ((SMALL_CAPACITY < length bytes) × ¬ HasRoom p Utf8 (length bytes) × (row ≡ owned false (is_ascii bytes) (is_ascii bytes) (length bytes))))
-MadeOfUtf8 p q bytes (shared r) row = (SMALL_CAPACITY < length bytes) × HasRoom p Utf8 (length bytes) × (row ≡ native (is_ascii bytes) (is_ascii bytes) (length bytes) r.slot)
-    × (r ≡ new_reference p.heap q.front r.slot (native_words bytes))
+MadeOfUtf8 p q bytes (shared r) row = (SMALL_CAPACITY < length bytes) × IsPublishedUtf8 p q bytes r row
 MadeOfUtf8 p q bytes (fixed l) row = ⊥
 
 -- the value that the pass p makes of UTF-16 units: Foreign, whatever their number, where they fit a slot and the pass shows one, Owned elsewhere

@@ -1,10 +1,11 @@
 -- What contracts see of a value: its text; the row of its two words, which tells the form, the flags and the number of code units;
 -- its content words; and where these stand.
 use Rattle.std.specs.Prelude.{◌≡◌, ℕ, List, Bool, true, false, Option, Some, None, if◌then◌else◌}
+use Rattle.std.specs.Char.{len_utf8}
 use Rattle.text_spec.specs.declared.encoding.Encoding.{Encoding}
 use Rattle.text_spec.specs.declared.encoding.Encoding.TheVariants.{Utf8, Utf16}
 use Rattle.text_spec.specs.Editing.{replaced}
-use Rattle.text_spec.specs.Offsets.{down}
+use Rattle.text_spec.specs.Offsets.{start, down}
 use Rattle.text_spec.specs.Views.{width_in, part}
 use Rattle.word_units.specs.Parts.{Part, all_of}
 use Rattle.object_words.specs.Rows.{Row, small, native, literal, foreign, owned}
@@ -41,6 +42,10 @@ own_part s = all_of (storage_of s.row) s.text
 -- the text between two places of the storage, which are scalar boundaries in its code units
 abbrev pub text_between : Meaning → ℕ → ℕ → List ℕ
 text_between s low high = part s.text (down (width_in (storage_of s.row)) s.text low) (down (width_in (storage_of s.row)) s.text high)
+
+-- where a scalar boundary of the storage stands in the UTF-8 of the text
+abbrev pub byte_place : Meaning → ℕ → ℕ
+byte_place s low = start len_utf8 s.text (down (width_in (storage_of s.row)) s.text low)
 
 -- the text with another one in place of what lies between two such places
 abbrev pub spliced : Meaning → ℕ → ℕ → List ℕ → List ℕ

@@ -8,6 +8,7 @@ use Rattle.object_words.specs.CountWord.{marks_utf16, unit_count}
 use Rattle.object_words.specs.Rows.{Row, small, native, literal, foreign, owned, is_ascii, Describes}
 use Rattle.object_words.specs.declared.layout.TheConstants.{TOP_SHIFT, SMALL_COUNTS, SLOT_WIDTH}
 use Rattle.slot_table.specs.Owners.{RefSeen, LiteralSeen}
+use Rattle.slot_edits.specs.Texts.{native_count}
 use Rattle.str_value.specs.declared.storage.Storage.{Storage}
 use Rattle.str_value.specs.declared.storage.Storage.TheVariants.{Words, Native, Foreign, Literal, Bytes, Units}
 use Rattle.str_value.specs.declared.limits.TheConstants.{MAX_TEXT_BYTES}
@@ -85,6 +86,7 @@ IsSide r n text = MatchOption r.side (n ≡ 0) (λ d. (0 < n) × (length r.side_
 
 -- the words of a slot hold UTF-8, and the reference has no places
 pub record HoldsUtf8 (r : RefSeen) (n : ℕ) : Type 0 where
+  pub says : slice_index r.known 0 ≡ native_count (is_ascii (bytes_of (content r.known) (counted r.known))) (counted r.known)
   pub marked : marks_utf16 (slice_index r.known 0) ≡ false
   pub room : counted r.known ≤ 8 * length (content r.known)
   pub some : 0 < length r.known

@@ -18,7 +18,9 @@
 //! Meaning: `specs/Meaning.antt`. Start at `value.rt`.
 #![tactic(auto)]
 
+mod byte_writer;
 mod copies;
+mod drafting;
 mod error;
 pub mod laws;
 mod learning;
@@ -27,8 +29,11 @@ mod limits;
 mod literal_values;
 mod making_utf16;
 mod making_utf8;
+mod own_splicing;
 mod parts;
 mod replacing;
+mod reserving;
+mod slot_splicing;
 mod small;
 mod splicing;
 mod storage;
@@ -36,6 +41,7 @@ mod taking;
 mod text;
 mod units;
 mod value;
+mod wrote;
 
 pub use error::MakeError;
 pub use learning::Learned;
@@ -43,3 +49,4 @@ pub use lengths::Lengths;
 pub use limits::{CRUMB_STRIDE, MAX_TEXT_BYTES};
 pub use storage::{StrCrumbs, StrPass};
 pub use value::Str;
+pub use wrote::Wrote;

@@ -1,47 +1,44 @@
 //! Edits of a value: another text in place of a part of its own.
-ghost use Rattle.std.specs.Prelude.{◌≡◌, ◌≢◌, ℕ, ◌+◌, ◌*◌, ◌<◌, ◌≤◌, ◌++◌, ◌↔◌, ◌⊎◌, true, length, take, chars, OnOk, OnErr, IsUtf8};
-ghost use Rattle.std.specs.Char.{len_utf8};
-ghost use Rattle.std.specs.List.{splice};
+ghost use Rattle.std.specs.Prelude.{◌≡◌, ◌≢◌, ℕ, ◌+◌, ◌*◌, ◌<◌, ◌≤◌, ◌++◌, ◌↔◌, ◌⊎◌, true, length, take, chars, OnOk, OnErr, IfOk, IsUtf8};
 ghost use Rattle.std.specs.Str.{all_scalars};
-ghost use Rattle.text_spec.specs.declared.encoding.Encoding.TheVariants.{Utf16};
+ghost use Rattle.text_spec.specs.declared.encoding.Encoding.TheVariants.{Utf8, Utf16};
 ghost use Rattle.text_spec.specs.Boundaries.{IsScalarBoundary};
-ghost use Rattle.text_spec.specs.Offsets.{start, down};
 ghost use Rattle.text_spec.specs.Text.{utf8};
 ghost use Rattle.text_spec.specs.Views.{width_in};
 ghost use Rattle.object_words.specs.Rows.{form_of};
 ghost use Rattle.object_words.specs.Rows as rows;
 ghost use Rattle.object_words.specs.declared.form.Form.TheVariants.{Owned};
-ghost use Rattle.str_value.specs.Meaning.{spliced, storage_of, OfHeap, own};
-ghost use Rattle.str_value.specs.Editing.{IsRemade};
+ghost use Rattle.str_value.specs.Meaning.{spliced, storage_of, byte_place, OfHeap, own};
+ghost use Rattle.str_value.specs.Making.{HasRoom};
+ghost use Rattle.str_value.specs.Editing.{IsRemade, IsMadeAnew, IsWritten, IsUnwritten, new_bytes};
 
 use crate::error::MakeError;
 use crate::limits::MAX_TEXT_BYTES;
-use crate::making_utf8::{is_ascii, publish_utf8, small};
-use crate::replacing::replace_between;
-use crate::storage::{Storage, StrPass};
+use crate::making_utf8::small;
+use crate::storage::StrPass;
 use crate::value::Str;
-use object_words::{Object, SMALL_CAPACITY};
+use crate::wrote::Wrote;
+use object_words::SMALL_CAPACITY;
+use slot_edits::Part;
 use std::alloc::Global;
 use std::sync::ledger::Ledger;
 use text_spec::OutOfMemory;
 use word_units::{Steps, Text, fill_forward};
 
-/// A part of a text by its two places in the UTF-8 of the text, which has `all` bytes.
-#[derive(Clone, Copy)]
-struct Part {
-    low: usize,
-    high: usize,
-    all: usize,
-}
-
 impl<'h> Str<'h> {
-    /// Puts the text `with` in place of the text between two scalar boundaries, which are places in the storage's code units.
+    /// Puts the text `with` in place of the text between two scalar boundaries, which are places in the storage's code units. The answer
+    /// tells where the new text stands, by the first rule that holds:
     ///
-    /// The value is then the one that `from_utf8` makes of the new text. The new one is made first, and the old one given up then. Where
-    /// it is Small no memory is taken. A vector of UTF-8 is edited in place, what lies behind the part being moved, and memory is taken
-    /// only where the text grows; any other text is read once into a vector. For the mark of ASCII a vector's whole text is read only
-    /// where the last scalars that aren't ASCII may have gone. Refused, the value and the pass being as they were: `TooLong` exactly
-    /// where the new text has more than `MAX_TEXT_BYTES`, and `OutOfMemory`. At most 260 words of the text are counted.
+    /// - `InPlace`: the value is Native, the new text fits its slot, and the value is the slot's only holder, which is asked unless it is
+    ///   known. Breadcrumbs are taken away first. What lies behind the part is moved by words, and nothing before it is touched.
+    /// - `Small`: it has at most 15 bytes.
+    /// - `Copied`: it fits a slot, and the pass shows a free slot and a credit. The old value is given up behind the Publish.
+    /// - `Owned`: in a vector. One that the value has is edited, what lies behind the part being moved.
+    ///
+    /// Where a Native value whose new text fits its slot isn't written in place, its reference was asked first, in vain. Only Owned takes
+    /// memory, and a vector that the value has only where the text grows. Refused: `TooLong` exactly where the new text has more than
+    /// `MAX_TEXT_BYTES`, the value and the pass being as they were, and `OutOfMemory`, where the reference may have been asked. At most 260
+    /// words of the text are counted.
     pub fn splice<L: Ledger>(
         &mut self,
         alloc: Global,
@@ -50,37 +47,78 @@ impl<'h> Str<'h> {
         high: u64,
         with: &str,
         steps: &mut Steps<L>,
-    ) -> Result<(), MakeError>
+    ) -> Result<Wrote, MakeError>
         requires heap { OfHeap pass.old self.old.place }
         requires low { IsScalarBoundary (width_in (storage_of self.old.row)) self.old.text low }
         requires high { IsScalarBoundary (width_in (storage_of self.old.row)) self.old.text high }
         requires order { low ≤ high }
         ensures text { OnOk result (self.new.text ≡ spliced self.old low high (chars with.now)) }
-        ensures remade { OnOk result (IsRemade pass.old self.old (utf8 (spliced self.old low high (chars with.now))) pass.new self.new) }
+        ensures written { IfOk result (λ wrote. IsWritten wrote pass.old self.old (byte_place self.old low) (utf8 (spliced self.old low high (chars with.now))) pass.new self.new) }
         ensures one_heap { pass.new.heap ≡ pass.old.heap }
         ensures heap { OfHeap pass.new self.new.place }
 
         ensures not_utf8 { (valid : ℕ) → result ≢ Err (MakeError.NotUtf8 valid) }
         ensures too_long { (n : ℕ) → (result ≡ Err (MakeError.TooLong n))
             ↔ ((n ≡ length (utf8 (spliced self.old low high (chars with.now)))) × (MAX_TEXT_BYTES < n)) }
-        ensures small_is_free { result ≡ Err MakeError.OutOfMemory → SMALL_CAPACITY < length (utf8 (spliced self.old low high (chars with.now))) }
+        ensures copied_is_free { result ≡ Err MakeError.OutOfMemory → (SMALL_CAPACITY < length (utf8 (spliced self.old low high (chars with.now))))
+            × ¬ HasRoom pass.old Utf8 (length (utf8 (spliced self.old low high (chars with.now)))) }
         ensures no_longer_is_free { result ≡ Err MakeError.OutOfMemory → (storage_of self.old.row ≡ Utf16) ⊎ (form_of self.old.row ≢ Owned)
             ⊎ (length (utf8 self.old.text) < length (utf8 (spliced self.old low high (chars with.now)))) }
-        ensures refused { OnErr result ((self.new ≡ self.old) × (pass.new ≡ pass.old)) }
+        ensures kept { (n : ℕ) → result ≡ Err (MakeError.TooLong n) → (self.new ≡ self.old) × (pass.new ≡ pass.old) }
+        ensures unwritten { result ≡ Err MakeError.OutOfMemory → IsUnwritten pass.old self.old (length (utf8 (spliced self.old low high (chars with.now)))) pass.new self.new }
         ensures cost { steps.new ≤ steps.old + 4 * 65 }
     {
         let bytes = with.as_bytes();
         let part = self.part_utf8(low, high);
-        let length = part.all - (part.high - part.low) + bytes.len();
-        if length > MAX_TEXT_BYTES {
-            return Err(MakeError::TooLong { len: length as u64 });
+        let length = part.count - (part.high - part.low) + bytes.len() as u64;
+        if length > MAX_TEXT_BYTES as u64 {
+            return Err(MakeError::TooLong { len: length });
         }
-        if length <= SMALL_CAPACITY {
-            self.hold_spliced(pass, part, high, bytes, steps);
-            return Ok(());
+        if self.overwrite(pass, part, bytes) {
+            return Ok(Wrote::InPlace);
         }
-        self.store_spliced(alloc, pass, part, bytes)?;
-        Ok(())
+        Ok(self.remake(alloc, pass, part, high, bytes, steps)?)
+    }
+
+    // Makes the value anew of its UTF-8 with bytes in place of a part, which ends at place `high` of the storage.
+    fn remake<L: Ledger>(
+        &mut self,
+        alloc: Global,
+        pass: &mut StrPass<'h>,
+        part: Part,
+        high: u64,
+        with: &[u8],
+        steps: &mut Steps<L>,
+    ) -> Result<Wrote, OutOfMemory>
+        requires heap { OfHeap pass.old self.old.place }
+        requires order { part.low ≤ part.high }
+        requires inside { part.high ≤ part.count }
+        requires count { part.count ≡ length (utf8 self.old.text) }
+        requires high { IsScalarBoundary (width_in (storage_of self.old.row)) self.old.text high }
+        requires high8 { part.high ≡ byte_place self.old high }
+        requires utf8 { IsUtf8 (new_bytes self.old part with.now) }
+        requires limit { length (new_bytes self.old part with.now) ≤ MAX_TEXT_BYTES }
+        ensures text { OnOk result (self.new.text ≡ chars (new_bytes self.old part with.now)) }
+        ensures anew { IfOk result (λ wrote. IsMadeAnew wrote pass.old self.old (new_bytes self.old part with.now) pass.new self.new) }
+        ensures one_heap { pass.new.heap ≡ pass.old.heap }
+        ensures heap { OfHeap pass.new self.new.place }
+        ensures refused { OnErr result ((self.new ≡ self.old) × (pass.new ≡ pass.old)) }
+        ensures long { OnErr result (SMALL_CAPACITY < length (new_bytes self.old part with.now)) }
+        ensures no_slot { OnErr result (¬ HasRoom pass.old Utf8 (length (new_bytes self.old part with.now))) }
+        ensures longer { OnErr result ((storage_of self.old.row ≡ Utf16) ⊎ (form_of self.old.row ≢ Owned)
+            ⊎ (length (utf8 self.old.text) < length (new_bytes self.old part with.now))) }
+        ensures cost { steps.new ≤ steps.old + 4 * 65 }
+    {
+        let length = part.count - (part.high - part.low) + with.len() as u64;
+        if length <= SMALL_CAPACITY as u64 {
+            self.hold_spliced(pass, part, high, with, steps);
+            return Ok(Wrote::Small);
+        }
+        if self.move_spliced(pass, part, high, with) {
+            return Ok(Wrote::Copied);
+        }
+        self.own_spliced(alloc, pass, part, with)?;
+        Ok(Wrote::Owned)
     }
 
     // Where the text between two scalar boundaries of the storage stands in the UTF-8 of the text, in one pass over UTF-16.
@@ -88,11 +126,11 @@ impl<'h> Str<'h> {
         requires low { IsScalarBoundary (width_in (storage_of self.old.row)) self.old.text low }
         requires high { IsScalarBoundary (width_in (storage_of self.old.row)) self.old.text high }
         requires order { low ≤ high }
-        ensures low { result.low ≡ start len_utf8 self.old.text (down (width_in (storage_of self.old.row)) self.old.text low) }
-        ensures high { result.high ≡ start len_utf8 self.old.text (down (width_in (storage_of self.old.row)) self.old.text high) }
-        ensures all { result.all ≡ length (utf8 self.old.text) }
-        ensures order { (result.low ≤ result.high) × (result.high ≤ result.all) }
-        ensures limit { result.all ≤ MAX_TEXT_BYTES }
+        ensures low { result.low ≡ byte_place self.old low }
+        ensures high { result.high ≡ byte_place self.old high }
+        ensures count { result.count ≡ length (utf8 self.old.text) }
+        ensures order { (result.low ≤ result.high) × (result.high ≤ result.count) }
+        ensures limit { result.count ≤ MAX_TEXT_BYTES }
         ensures kept { self.new ≡ self.old }
         ensures scalars { all_scalars self.old.text ≡ true }
     {
@@ -101,9 +139,9 @@ impl<'h> Str<'h> {
         let within = self.utf8_length(low, high);
         let behind = self.utf8_length(high, end);
         Part {
-            low: before as usize,
-            high: (before + within) as usize,
-            all: (before + within + behind) as usize,
+            low: before,
+            high: before + within,
+            count: before + within + behind,
         }
     }
 
@@ -120,11 +158,11 @@ impl<'h> Str<'h> {
         requires order { part.low ≤ part.high }
         requires inside { part.high ≤ length (utf8 self.old.text) }
         requires high { IsScalarBoundary (width_in (storage_of self.old.row)) self.old.text high }
-        requires high8 { part.high ≡ start len_utf8 self.old.text (down (width_in (storage_of self.old.row)) self.old.text high) }
-        requires utf8 { IsUtf8 (splice (utf8 self.old.text) part.low part.high with.now) }
-        requires few { length (splice (utf8 self.old.text) part.low part.high with.now) ≤ SMALL_CAPACITY }
-        ensures text { self.new.text ≡ chars (splice (utf8 self.old.text) part.low part.high with.now) }
-        ensures remade { IsRemade pass.old self.old (splice (utf8 self.old.text) part.low part.high with.now) pass.new self.new }
+        requires high8 { part.high ≡ byte_place self.old high }
+        requires utf8 { IsUtf8 (new_bytes self.old part with.now) }
+        requires few { length (new_bytes self.old part with.now) ≤ SMALL_CAPACITY }
+        ensures text { self.new.text ≡ chars (new_bytes self.old part with.now) }
+        ensures remade { IsRemade pass.old self.old (new_bytes self.old part with.now) pass.new self.new }
         ensures one_heap { pass.new.heap ≡ pass.old.heap }
         ensures heap { OfHeap pass.new self.new.place }
         ensures cost { steps.new ≤ steps.old + 4 * 65 }
@@ -144,11 +182,11 @@ impl<'h> Str<'h> {
         requires order { part.low ≤ part.high }
         requires inside { part.high ≤ length (utf8 self.old.text) }
         requires high { IsScalarBoundary (width_in (storage_of self.old.row)) self.old.text high }
-        requires high8 { part.high ≡ start len_utf8 self.old.text (down (width_in (storage_of self.old.row)) self.old.text high) }
-        requires utf8 { IsUtf8 (splice (utf8 self.old.text) part.low part.high with.now) }
-        requires few { length (splice (utf8 self.old.text) part.low part.high with.now) ≤ SMALL_CAPACITY }
-        ensures text { result.text ≡ chars (splice (utf8 self.old.text) part.low part.high with.now) }
-        ensures row { result.row ≡ rows.small (splice (utf8 self.old.text) part.low part.high with.now) }
+        requires high8 { part.high ≡ byte_place self.old high }
+        requires utf8 { IsUtf8 (new_bytes self.old part with.now) }
+        requires few { length (new_bytes self.old part with.now) ≤ SMALL_CAPACITY }
+        ensures text { result.text ≡ chars (new_bytes self.old part with.now) }
+        ensures row { result.row ≡ rows.small (new_bytes self.old part with.now) }
         ensures place { result.place ≡ own }
         ensures kept { self.new ≡ self.old }
         ensures cost { steps.new ≤ steps.old + 4 * 65 }
@@ -157,80 +195,7 @@ impl<'h> Str<'h> {
         let mut back = [0; 64];
         let (_size, _at) = fill_forward(self, 0, &mut front, steps);
         let (size, _end) = fill_forward(self, high, &mut back, steps);
-        small_of(&front[..part.low], with, &back[..size])
-    }
-
-    // Puts bytes in place of a part of the UTF-8, where all of it is then too long for the two words.
-    fn store_spliced(
-        &mut self,
-        alloc: Global,
-        pass: &mut StrPass<'h>,
-        part: Part,
-        with: &[u8],
-    ) -> Result<(), OutOfMemory>
-        requires heap { OfHeap pass.old self.old.place }
-        requires order { part.low ≤ part.high }
-        requires inside { part.high ≤ length (utf8 self.old.text) }
-        requires utf8 { IsUtf8 (splice (utf8 self.old.text) part.low part.high with.now) }
-        requires long { SMALL_CAPACITY < length (splice (utf8 self.old.text) part.low part.high with.now) }
-        requires limit { length (splice (utf8 self.old.text) part.low part.high with.now) ≤ MAX_TEXT_BYTES }
-        ensures text { OnOk result (self.new.text ≡ chars (splice (utf8 self.old.text) part.low part.high with.now)) }
-        ensures remade { OnOk result (IsRemade pass.old self.old (splice (utf8 self.old.text) part.low part.high with.now) pass.new self.new) }
-        ensures one_heap { pass.new.heap ≡ pass.old.heap }
-        ensures heap { OfHeap pass.new self.new.place }
-        ensures refused { OnErr result ((self.new ≡ self.old) × (pass.new ≡ pass.old)) }
-        ensures longer { OnErr result ((storage_of self.old.row ≡ Utf16) ⊎ (form_of self.old.row ≢ Owned)
-            ⊎ (length (utf8 self.old.text) < length (splice (utf8 self.old.text) part.low part.high with.now))) }
-    {
-        let marked = self.object.ascii();
-        match std::mem::replace(&mut self.storage, Storage::Words) {
-            Storage::Bytes(kept) => {
-                let mut kept = kept;
-                let ascii = ascii_after(marked, kept.as_slice(), part, with);
-                if let Err(wanting) = replace_between(&mut kept, part.low, part.high, with) {
-                    self.storage = Storage::Bytes(kept);
-                    return Err(wanting.into());
-                }
-                if let Some(value) = publish_utf8(pass, kept.as_slice()) {
-                    *self = value;
-                    return Ok(());
-                }
-                self.object = Object::owned(ascii, ascii, false, kept.len() as u64);
-                self.storage = Storage::Bytes(kept);
-                Ok(())
-            }
-            other => {
-                self.storage = other;
-                self.store_copy_spliced(alloc, pass, part, with)
-            }
-        }
-    }
-
-    // The same of a value that has no vector of UTF-8: its text is read into one.
-    fn store_copy_spliced(
-        &mut self,
-        alloc: Global,
-        pass: &mut StrPass<'h>,
-        part: Part,
-        with: &[u8],
-    ) -> Result<(), OutOfMemory>
-        requires heap { OfHeap pass.old self.old.place }
-        requires order { part.low ≤ part.high }
-        requires inside { part.high ≤ length (utf8 self.old.text) }
-        requires utf8 { IsUtf8 (splice (utf8 self.old.text) part.low part.high with.now) }
-        requires limit { length (splice (utf8 self.old.text) part.low part.high with.now) ≤ MAX_TEXT_BYTES }
-        ensures text { OnOk result (self.new.text ≡ chars (splice (utf8 self.old.text) part.low part.high with.now)) }
-        ensures remade { OnOk result (IsRemade pass.old self.old (splice (utf8 self.old.text) part.low part.high with.now) pass.new self.new) }
-        ensures one_heap { pass.new.heap ≡ pass.old.heap }
-        ensures heap { OfHeap pass.new self.new.place }
-        ensures refused { OnErr result ((self.new ≡ self.old) × (pass.new ≡ pass.old)) }
-    {
-        let end = self.count();
-        let mut bytes = self.copy_utf8(alloc, 0, end)?;
-        replace_between(&mut bytes, part.low, part.high, with)?;
-        let value = Str::from_vec(pass, bytes);
-        std::mem::replace(self, value).release(pass);
-        Ok(())
+        small_of(&front[..part.low as usize], with, &back[..size])
     }
 }
 
@@ -261,22 +226,4 @@ fn put(block: &mut [u8; SMALL_CAPACITY], size: usize, bytes: &[u8]) -> usize
     let end = size + bytes.len();
     block[size..end].copy_from_slice(bytes);
     end
-}
-
-// Whether all bytes are ASCII once a part of them is replaced, where `marked` says whether all are before.
-fn ascii_after(marked: bool, bytes: &[u8], part: Part, with: &[u8]) -> bool
-    requires marked { marked ≡ rows.is_ascii bytes.now }
-    requires order { part.low ≤ part.high }
-    requires inside { part.high ≤ length bytes.now }
-    ensures { result ≡ rows.is_ascii (splice bytes.now part.low part.high with.now) }
-{
-    let added = is_ascii(with);
-    if marked || !added {
-        return added;
-    }
-    // What isn't ASCII is still there where it doesn't lie in the part alone.
-    if is_ascii(&bytes[part.low..part.high]) {
-        return false;
-    }
-    is_ascii(&bytes[..part.low]) && is_ascii(&bytes[part.high..])
 }

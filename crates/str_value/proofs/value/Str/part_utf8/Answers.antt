@@ -39,8 +39,8 @@ returns-clause-high c =
     let within = ap (λ (m : Meaning). length (utf8 (text_between m c.args.low c.args.high))) c.utf8_length-before.ensures.kept in
     omega (arith, within, c.utf8_length-before.ensures.value, c.utf8_length-within.ensures.value, p.first, p.second)
 
-pub returns-clause-all : goal.returns-clause-all
-returns-clause-all c =
+pub returns-clause-count : goal.returns-clause-count
+returns-clause-count c =
     let now = c.args.self.now in
     let p = places8 now c.args.low c.args.high c.count-end.result (end-kept _ _ c.args.self.now c.count-end.result c.self.invariant c.self.view_is c.count-end.ensures) c.requires.order in
     let within = ap (λ (m : Meaning). length (utf8 (text_between m c.args.low c.args.high))) c.utf8_length-before.ensures.kept in
@@ -49,7 +49,7 @@ returns-clause-all c =
 
 pub returns-clause-limit : goal.returns-clause-limit
 returns-clause-limit c =
-    omega (arith, returns-clause-all c, limit-kept _ _ c.args.self.now c.self.invariant c.self.view_is)
+    omega (arith, returns-clause-count c, limit-kept _ _ c.args.self.now c.self.invariant c.self.view_is)
 
 pub returns-clause-scalars : goal.returns-clause-scalars
 returns-clause-scalars c = scalars-kept _ _ c.args.self.now c.self.invariant c.self.view_is

@@ -3,8 +3,8 @@ use Rattle.std.proofs.Math.Bool.{true-and, false-and}
 use Rattle.std.proofs.lemmas.List.{take_all, length-drop}
 use Rattle.object_words.specs.Rows.{is_ascii}
 use Rattle.str_value.proofs.Spliced.{ascii-marked, ascii-added, ascii-both, ascii-left}
-use Rattle.str_value.proofs.splicing.ascii_after.Goals as goal
-use Rattle.str_value.proofs.splicing.ascii_after.Goals.{then-marked-via-then-marked, then-marked-via-else-marked+then-not-added}
+use Rattle.str_value.proofs.own_splicing.ascii_after.Goals as goal
+use Rattle.str_value.proofs.own_splicing.ascii_after.Goals.{then-marked-via-then-marked, then-marked-via-else-marked+then-not-added}
 
 -- all is ASCII before, or something is added that isn't
 pub returns-then-marked : goal.returns-then-marked
