@@ -1,5 +1,5 @@
 -- Which of the answers an edit gives.
-use Rattle.std.proofs.Common.{◌≡◌, refl, sym, ap, ◌∙◌, ℕ, ◌<◌, ◌≤◌, ◌⊎◌, inl, inr, ⊎_elim, ◌↔◌, List, [], ◌++◌, take, drop, length, chars, Bool, true, false, IsUtf8, if◌then◌else◌, Some, Result, Ok, Err, arith}
+use Rattle.std.proofs.Common.{◌≡◌, refl, sym, ap, subst, ◌∙◌, ℕ, ◌<◌, ◌≤◌, ◌⊎◌, inl, inr, ⊎_elim, ◌↔◌, List, [], ◌++◌, take, drop, length, chars, Bool, true, false, IsUtf8, if◌then◌else◌, Some, Result, Ok, Err, IfOk, arith}
 use Rattle.std.proofs.lemmas.Bool.{cases_lt, lt-ltb, le-ltb}
 use Rattle.std.proofs.lemmas.Str.{is_utf8-from_IsUtf8, IsUtf8-from_is_utf8}
 use Rattle.std.proofs.lemmas.List.{take_all, append-nil}
@@ -10,6 +10,9 @@ use Rattle.text_spec.specs.Editing.{replaced}
 use Rattle.text_spec.specs.Text.{utf8}
 use Rattle.str_value.specs.declared.error.MakeError.{MakeError}
 use Rattle.str_value.specs.declared.error.MakeError.TheVariants as made
+use Rattle.str_value.specs.declared.wrote.Wrote.{Wrote}
+use Rattle.str_value.specs.Editing.{IsUnwritten}
+use Rattle.slot_table.specs.Owners.{PassSeen}
 use Rattle.edit_cow.specs.declared.error.EditError.{EditError}
 use Rattle.edit_cow.specs.declared.error.EditError.TheVariants as refusal
 use Rattle.text_spec.specs.Boundaries.{IsScalarBoundary}
@@ -19,7 +22,7 @@ use Rattle.text_spec.proofs.Walk.{start-mono}
 use Rattle.str_value.specs.Meaning.{Meaning, storage_of, own_part}
 use Rattle.str_value.proofs.Between.{down-mono}
 use Rattle.rounding.specs.Refusals.{scalar_of}
-use Rattle.edit_cow.specs.Edits.{within_limit, rewritten, rewritten_between, in_order, after_first, after_second, edited, appended, refusal_of}
+use Rattle.edit_cow.specs.Edits.{within_limit, rewritten, rewritten_between, in_order, after_first, after_second, edited, appended, refusal_of, IsLeft}
 
 fits : (text : List ℕ) → length (utf8 text) ≤ 16777216 → within_limit text ≡ Ok text
 fits text few = ap (λ long. if long then Err (refusal.TooLong (length (utf8 text))) else Ok text) (le-ltb 16777216 (length (utf8 text)) few)
@@ -78,13 +81,13 @@ module _ (now : Meaning) (a b : ℕ) (with : List ℕ) (from to : ℕ) where
         (le-ltb (number to) (number from) (down-mono w (now.text) from to h))
 
 abbrev pub is_err : MakeError → MakeError → Type 0
-is_err m e = let r : Result (Unit {0}) MakeError = Err m in r ≡ Err e
+is_err m e = let r : Result Wrote MakeError = Err m in r ≡ Err e
 
 -- what a call that makes the text says of its length
-abbrev pub IsTooLong : Result (Unit {0}) MakeError → List ℕ → Type 0
+abbrev pub IsTooLong : Result Wrote MakeError → List ℕ → Type 0
 IsTooLong r text = (n : ℕ) → (r ≡ Err (made.TooLong n)) ↔ ((n ≡ length (utf8 text)) × (16777216 < n))
 
-pub made-text : (text : List ℕ) (u : Unit {0}) → IsTooLong (Ok u) text → within_limit text ≡ Ok text
+pub made-text : (text : List ℕ) (u : Wrote) → IsTooLong (Ok u) text → within_limit text ≡ Ok text
 made-text text u long =
     fits text
     (⊎_elim (λ l. let no : Ok u ≡ Err (made.TooLong (length (utf8 text))) = (long (length (utf8 text))).1 (refl, l) in absurd (cc)) (λ l. l) (cases_lt 16777216 (length (utf8 text))))
@@ -117,3 +120,28 @@ pub no-memory : (m : MakeError) → refusal_of m ≡ refusal.OutOfMemory → m �
 no-memory (made.NotUtf8 n) h = cc
 no-memory (made.TooLong n) h = cc
 no-memory made.OutOfMemory h = refl
+
+-- ---- what a refused edit leaves
+module _ (p : PassSeen) (s : Meaning) (q : PassSeen) (t : Meaning) where
+  pub left-refused : (o : Result (List ℕ) EditError) (e : EditError) → o ≡ Err e → t ≡ s → q ≡ p → IsLeft p s o q t
+  left-refused (Ok text) e is value pass = cc
+  left-refused (Err e') e is value pass = (value, pass)
+
+  left_wanting : (o : Result (List ℕ) EditError) (text : List ℕ) → o ≡ Ok text → IsUnwritten p s (length (utf8 text)) q t → IsLeft p s o q t
+  left_wanting o text is unwritten = subst (λ r. IsLeft p s r q t) (sym is) unwritten
+
+  pub made-left : (m : MakeError) (text : List ℕ) (o : Result (List ℕ) EditError) → o ≡ within_limit text → IsTooLong (Err m) text → ((n : ℕ) → ¬ (is_err m (made.NotUtf8 n)))
+      → ((n : ℕ) → is_err m (made.TooLong n) → (t ≡ s) × (q ≡ p)) → (is_err m made.OutOfMemory → IsUnwritten p s (length (utf8 text)) q t) → IsLeft p s o q t
+  made-left (made.NotUtf8 n) text o is long not8 kept unwritten = absurd (not8 n refl)
+  made-left (made.TooLong n) text o is long not8 kept unwritten =
+      let many = (long n).0 refl in
+      left-refused o _ (is ∙ passes text (omega (arith, many.0, many.1))) (kept n refl).0 (kept n refl).1
+  made-left made.OutOfMemory text o is long not8 kept unwritten =
+      let few : length (utf8 text) ≤ 16777216 =
+      ⊎_elim (λ l. let no : is_err made.OutOfMemory (made.TooLong (length (utf8 text))) = (long (length (utf8 text))).1 (refl, l) in absurd (cc)) (λ l. l) (cases_lt 16777216 (length (utf8 text))) in
+      left_wanting o text (is ∙ fits text few) (unwritten refl)
+
+-- what holds of an answer that is there
+pub ok-of : (r : Result Wrote EditError) (P Q : Wrote → Type 0) → ((w : Wrote) → P w → Q w) → IfOk r P → IfOk r Q
+ok-of (Ok w) P Q f h = f w h
+ok-of (Err e) P Q f h = h

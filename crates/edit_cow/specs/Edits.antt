@@ -1,15 +1,11 @@
 -- What an edit answers: the new text, or the refusal that comes first. A value is its text, its row, its content words and
 -- its place.
 -- The order of the refusals, the limit and the rules of rounding are the project's own.
-use Rattle.std.specs.Prelude.{ℕ, ◌<◌, ◌≤◌, List, length, ◌++◌, chars, nat_lt, if◌then◌else◌, Option, Some, None, Result, Ok, Err}
+use Rattle.std.specs.Prelude.{◌≡◌, ℕ, List, length, ◌++◌, chars, nat_lt, if◌then◌else◌, Option, Some, None, Result, Ok, Err}
 use Rattle.std.specs.Str.{is_utf8}
 use Rattle.std.specs.Str.Lossy.{utf8_valid_len}
 use Rattle.text_spec.specs.Editing.{replaced}
 use Rattle.text_spec.specs.Text.{utf8}
-use Rattle.text_spec.specs.declared.encoding.Encoding.TheVariants.{Utf8}
-use Rattle.object_words.specs.declared.form.Form.{Form}
-use Rattle.object_words.specs.declared.form.Form.TheVariants as form
-use Rattle.object_words.specs.declared.layout.TheConstants.{SMALL_CAPACITY}
 use Rattle.word_units.specs.Parts.{scalars_before}
 use Rattle.rounding.specs.Refusals.{scalar_of, out_of_range}
 use Rattle.str_value.specs.declared.limits.TheConstants.{MAX_TEXT_BYTES}
@@ -17,11 +13,9 @@ use Rattle.str_value.specs.declared.error.MakeError.{MakeError}
 use Rattle.str_value.specs.declared.error.MakeError.TheVariants as made
 use Rattle.slot_table.specs.Owners.{PassSeen}
 use Rattle.str_value.specs.Meaning.{Meaning, own_part}
-use Rattle.str_value.specs.Making.{HasRoom}
+use Rattle.str_value.specs.Editing.{IsUnwritten}
 use Rattle.edit_cow.specs.declared.error.EditError.{EditError}
 use Rattle.edit_cow.specs.declared.error.EditError.TheVariants as refusal
-use Rattle.edit_cow.specs.declared.wrote.Wrote.{Wrote}
-use Rattle.edit_cow.specs.declared.wrote.Wrote.TheVariants as wrote
 
 -- a text that isn't too long
 abbrev pub within_limit : List ℕ → Result (List ℕ) EditError
@@ -56,20 +50,11 @@ edited s a b with = after_first s a b with (scalar_of (own_part s) a)
 abbrev pub appended : List ℕ → List ℕ → Result (List ℕ) EditError
 appended text with = if is_utf8 with then within_limit (text ++ chars with) else Err (refusal.NotUtf8 (utf8_valid_len with))
 
--- Where the new text of so many bytes stands, by the first rule that holds: in the value's two words, in a slot where one has room for it
--- and the pass shows one, and else in a vector
-abbrev pub IsWritten : Wrote → PassSeen → ℕ → Type 0
-IsWritten wrote.Small p bytes = bytes ≤ SMALL_CAPACITY
-IsWritten wrote.Copied p bytes = (SMALL_CAPACITY < bytes) × HasRoom p Utf8 bytes
-IsWritten wrote.Owned p bytes = (SMALL_CAPACITY < bytes) × ¬ HasRoom p Utf8 bytes
-
--- the same by the form of the new value
-abbrev pub wrote_of : Form → Wrote
-wrote_of form.Small = wrote.Small
-wrote_of form.Native = wrote.Copied
-wrote_of form.Foreign = wrote.Copied
-wrote_of form.Literal = wrote.Owned
-wrote_of form.Owned = wrote.Owned
+-- What a refused edit leaves: the value and the pass as they were, where it is refused for what was asked. Elsewhere memory was wanting, and
+-- the value's slot may have been asked for
+abbrev pub IsLeft : PassSeen → Meaning → Result (List ℕ) EditError → PassSeen → Meaning → Type 0
+IsLeft p s (Err e) q t = (t ≡ s) × (q ≡ p)
+IsLeft p s (Ok text) q t = IsUnwritten p s (length (utf8 text)) q t
 
 -- a refusal to make a value, as one to edit it
 abbrev pub refusal_of : MakeError → EditError

@@ -1,14 +1,15 @@
-use Rattle.std.proofs.Common.{◌≡◌, ◌≢◌, sym, ap, subst, ◌∙◌, ◌⊎◌, inr, ◌<◌, length, OnOk, IfErr, Some, Ok, Err}
+use Rattle.std.proofs.Common.{◌≡◌, ◌≢◌, refl, sym, ap, subst, ◌∙◌, ◌⊎◌, inr, ◌<◌, length, OnOk, OnErr, IfErr, Some, Ok, Err}
 use Rattle.text_spec.specs.declared.encoding.Encoding.TheVariants.{Utf16}
 use Rattle.text_spec.specs.Text.{utf8}
 use Rattle.object_words.specs.Rows.{form_of}
 use Rattle.object_words.specs.declared.form.Form.TheVariants as form
-use Rattle.str_value.specs.Meaning.{storage_of, own_part}
+use Rattle.str_value.specs.Meaning.{Meaning, storage_of, own_part, byte_place}
+use Rattle.str_value.specs.Editing.{IsWritten}
 use Rattle.word_units.specs.Parts.{IsBoundaryIn, scalars_before}
 use Rattle.rounding.specs.Refusals.{scalar_of}
 use Rattle.edit_cow.specs.declared.error.EditError.TheVariants as refusal
-use Rattle.edit_cow.specs.Edits.{rewritten_between, edited}
-use Rattle.edit_cow.proofs.Outcomes.{reversed, ordered}
+use Rattle.edit_cow.specs.Edits.{rewritten_between, edited, IsLeft}
+use Rattle.edit_cow.proofs.Outcomes.{reversed, ordered, left-refused, ok-of}
 use Rattle.edit_cow.proofs.edits.replace.Goals as goal
 use Rattle.edit_cow.proofs.edits.replace.Goals.{Then-to-from, After-rewrite}
 use Rattle.edit_cow.proofs.edits.replace.Given.{Over}
@@ -49,8 +50,30 @@ returns-clause-refused g c =
 pub returns-clause-cause : goal.returns-clause-cause
 returns-clause-cause g c e h = c.rewrite.ensures.cause e (right g c ∙ h)
 
-pub returns-clause-small_is_free : goal.returns-clause-small_is_free
-returns-clause-small_is_free g c none text h = c.rewrite.ensures.small_is_free none text (right g c ∙ h)
+pub returns-clause-copied_is_free : goal.returns-clause-copied_is_free
+returns-clause-copied_is_free g c none text h = c.rewrite.ensures.copied_is_free none text (right g c ∙ h)
+
+pub returns-then-to-from-clause-left : goal.returns-then-to-from-clause-left
+returns-then-to-from-clause-left g c = left-refused _ _ _ _ _ _ (wrong g c) (c.in_ok-to.ensures.kept ∙ c.in_ok-from.ensures.kept) refl
+
+pub returns-clause-left : goal.returns-clause-left
+returns-clause-left g c =
+    let now = c.args.s.now in
+    subst (λ o. OnErr c.rewrite.result (IsLeft c.args.pass.now now o c.rewrite.new.pass c.rewrite.new.s)) (right g c)
+    (subst (λ (m : Meaning). OnErr c.rewrite.result (IsLeft c.args.pass.now m (rewritten_between c.scalar_boundary-2.new.t c.in_ok-from.from c.in_ok-to.to c.args.with.now) c.rewrite.new.pass c.rewrite.new.s))
+    (c.in_ok-to.ensures.kept ∙ c.in_ok-from.ensures.kept) c.rewrite.ensures.left)
+
+pub returns-clause-written : goal.returns-clause-written
+returns-clause-written g c =
+    let now = c.args.s.now in
+    ok-of c.rewrite.result _ _
+    (λ w h. (
+      scalars_before (own_part now) c.in_ok-from.from,
+      c.in_ok-from.ensures.number,
+      subst (λ (m : Meaning). IsWritten w c.args.pass.now m (byte_place m c.in_ok-from.from) (utf8 c.rewrite.new.s.text) c.rewrite.new.pass c.rewrite.new.s)
+          (c.in_ok-to.ensures.kept ∙ c.in_ok-from.ensures.kept) h,
+    ))
+    c.rewrite.ensures.written
 
 pub returns-clause-no_longer_is_free : goal.returns-clause-no_longer_is_free
 returns-clause-no_longer_is_free g c none text h =
