@@ -3,4 +3,9 @@ pub mod Parts
 pub mod Indices
 pub mod Edited
 pub mod Working
+pub mod Written
 pub mod Runs
+pub mod Spreading
+pub mod Shares
+pub mod Gathering
+pub mod Batches

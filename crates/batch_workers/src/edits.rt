@@ -19,8 +19,8 @@ use str_value::{Str, StrPass};
 use text_spec::{Encoding, OutOfMemory};
 use word_units::{Steps, Text};
 
-/// Puts the text whose UTF-8 is `with` in place of the text between two offsets, and answers the counts of the new text. The value is
-/// as it was where it answers anything else, or where memory is wanting, and the pass is too.
+/// Puts the text whose UTF-8 is `with` in place of the text between two offsets, and answers the counts of the new text. The value and the
+/// pass are as they were where it answers anything else. Where memory is wanting the text is, and the value's slot may have been asked for.
 pub(crate) fn edit<'h, L: Ledger>(
     alloc: Global,
     text: &mut Str<'h>,
@@ -37,7 +37,7 @@ pub(crate) fn edit<'h, L: Ledger>(
     ensures unedited { IfOk result (λ reply. is_counts reply ≡ false → text.new ≡ text.old) }
     ensures worked { IfOk result (λ reply. IsWorked pass.old text.old pass.new text.new (edits_of reply)) }
     ensures free { OnErr result (IsOk (edited text.old.text a b (chars with.now))) }
-    ensures kept { OnErr result ((text.new ≡ text.old) × (pass.new ≡ pass.old)) }
+    ensures left { OnErr result ((text.new.text ≡ text.old.text) × IsWorked pass.old text.old pass.new text.new 0) }
     ensures shown { IfOk result IsShownOp }
     ensures none { IfOk result (λ reply. text_bytes reply ≡ 0) }
 {
@@ -68,7 +68,7 @@ fn edit_between<'h, L: Ledger>(
     ensures unedited { IfOk result (λ reply. is_counts reply ≡ false → text.new ≡ text.old) }
     ensures worked { IfOk result (λ reply. IsWorked pass.old text.old pass.new text.new (edits_of reply)) }
     ensures free { OnErr result (IsOk (within_limit (spliced text.old low high (chars with.now)))) }
-    ensures kept { OnErr result ((text.new ≡ text.old) × (pass.new ≡ pass.old)) }
+    ensures left { OnErr result ((text.new.text ≡ text.old.text) × IsWorked pass.old text.old pass.new text.new 0) }
     ensures shown { IfOk result IsShownOp }
     ensures none { IfOk result (λ reply. text_bytes reply ≡ 0) }
 {

@@ -18,7 +18,7 @@ use utf16_view::utf16;
 use word_units::{Steps, Text};
 
 /// How many bytes of text may be answered to one line.
-const ANSWER_LIMIT: u64 = 16_777_216;
+pub(crate) const ANSWER_LIMIT: u64 = 16_777_216;
 
 /// The number of a view's elements.
 pub(crate) fn count<L: Ledger>(text: &mut Str, view: View, steps: &mut Steps<L>) -> u64

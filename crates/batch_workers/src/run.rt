@@ -111,7 +111,7 @@ fn run_op<'h, L: Ledger>(
     ensures worked { IfOk result (λ reply. IsWorked pass.old s.old pass.new s.new (edits_of reply)) }
     ensures learned { OnOk result (is_at op.now ≡ true → Learnable pass.old s.old → Knows s.new) }
     ensures free { OnErr result (takes_memory (op_reply s.old.text spent op.now) ≡ true) }
-    ensures kept { OnErr result ((s.new ≡ s.old) × (pass.new ≡ pass.old)) }
+    ensures left { OnErr result ((s.new.text ≡ s.old.text) × IsWorked pass.old s.old pass.new s.new 0) }
     ensures shown { IfOk result IsShownOp }
     ensures within { IfOk result (λ reply. spent + text_bytes reply ≤ answer_limit) }
 {

@@ -7,7 +7,7 @@ use Rattle.text_spec.proofs.Downward.{down-length}
 use Rattle.query_lines.specs.declared.reply.OpReply.{OpReply}
 use Rattle.str_value.specs.Meaning.{Meaning, storage_of, spliced}
 use Rattle.batch_workers.specs.Ops.{is_out, within_limit, edit_reply}
-use Rattle.batch_workers.specs.Working.{edits_of}
+use Rattle.batch_workers.specs.Working.{IsWorked, edits_of}
 use Rattle.batch_workers.proofs.Boundaries.{boundary-there, inside-there, places-in-order}
 use Rattle.batch_workers.proofs.Parts.{spliced-places}
 use Rattle.batch_workers.proofs.Working.{worked-nothing}
@@ -65,3 +65,8 @@ returns-in-Ok-clause-free g c =
 pub returns-in-Err-clause-worked : goal.returns-in-Err-clause-worked
 returns-in-Err-clause-worked g c =
     worked-nothing c.args.pass.now c.args.pass.now c.args.text.now c.part_at.new.text (edits_of c.out_of_bounds.result) refl c.part_at.ensures.kept c.requires.heap
+
+pub returns-in-Ok-clause-left : goal.returns-in-Ok-clause-left
+returns-in-Ok-clause-left g c =
+    subst (λ (m : Meaning). OnErr c.edit_between.result ((c.edit_between.new.text.text ≡ m.text) × IsWorked c.args.pass.now m c.edit_between.new.pass c.edit_between.new.text 0)) c.part_at.ensures.kept
+    c.edit_between.ensures.left

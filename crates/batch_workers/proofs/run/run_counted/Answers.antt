@@ -1,10 +1,8 @@
-use Rattle.std.proofs.Common.{rules, refl, [], ◌∷◌, ◌≡◌, ◌<◌, ◌+◌, ◌++◌, sym, ap, subst, drop, length, All, Some, true, false, inr, arith}
+use Rattle.std.proofs.Common.{rules, refl, [], ◌∷◌, ◌≡◌, ◌<◌, ◌+◌, ◌++◌, sym, ap, subst, ◌∙◌, drop, length, All, Some, true, false, inr, arith}
 use Rattle.std.proofs.lemmas.List.Elements.{All-pop, All-push, All-get_or}
-use Rattle.slot_table.specs.Owners.{PassSeen}
 use Rattle.slot_accounts.specs.Account.{sum_of}
 use Rattle.slot_accounts.proofs.Doing.{sum_of-append}
 use Rattle.query_lines.specs.Replies.{IsShownOp}
-use Rattle.str_value.specs.Meaning.{Meaning}
 use Rattle.batch_workers.specs.Ops.{op_replies, is_counts, is_at, IsLeftBy}
 use Rattle.batch_workers.specs.Working.{IsWorked, edits_of}
 use Rattle.batch_workers.proofs.Runs.{text-more, answers-more}
@@ -69,15 +67,17 @@ pub returns-in_err-replies-clause-left : goal.returns-in_err-replies-clause-left
 returns-in_err-replies-clause-left g c =
     on_err c.from_residual.result _ (worked-nothing c.args.pass.now c.args.pass.now c.args.s.now c.args.s.now (length c.args.ops.now) refl refl c.requires.heap)
 
+pub returns-in_err-reply-clause-some_first : goal.returns-in_err-reply-clause-some_first
+returns-in_err-reply-clause-some_first g c =
+    on_err c.from_residual-in_err-reply.result _ (c.loop-op.op-index, c.in_err-reply.ensures.left.0 ∙ c.loop-op.invariant.so_far)
+
 pub returns-in_err-reply-clause-left : goal.returns-in_err-reply-clause-left
 returns-in_err-reply-clause-left g c =
     let more : c.loop-op.op-index < length c.args.ops.now = omega arith in
     let inv = c.loop-op.invariant in
-    let kept = c.in_err-reply.ensures.kept in
     on_err c.from_residual-in_err-reply.result _
-    (subst (λ (p : PassSeen). IsWorked c.args.pass.now c.args.s.now p c.run_op.new.s (length c.args.ops.now)) (sym kept.1)
-    (subst (λ (m : Meaning). IsWorked c.args.pass.now c.args.s.now c.loop-op.pass m (length c.args.ops.now)) (sym kept.0)
-    (worked-more c.args.pass.now c.args.s.now c.loop-op.pass c.loop-op.s _ _ (omega (arith, inv.at_most, more)) inv.worked)))
+    (worked-more c.args.pass.now c.args.s.now c.run_op.new.pass c.run_op.new.s _ _ (omega (arith, inv.at_most, more))
+    (worked-then c.args.pass.now c.args.s.now c.loop-op.pass c.loop-op.s c.run_op.new.pass c.run_op.new.s _ 0 inv.worked c.in_err-reply.ensures.left.1))
 
 pub returns-in_err-push-clause-left : goal.returns-in_err-push-clause-left
 returns-in_err-push-clause-left g c =
