@@ -1,5 +1,5 @@
 -- The history is there exactly where neither words nor want of memory ended the run.
-use Rattle.std.proofs.Common.{◌≡◌, refl, ap, ℕ, Option, Result, Ok, Err, IsSome, IsErrOf, ◌↔◌, arith}
+use Rattle.std.proofs.Common.{◌≡◌, refl, ap, Option, Result, Ok, Err, IsSome, IsErrOf, ◌↔◌, arith}
 use Rattle.query_program.specs.Statuses.{status_of_end}
 use Rattle.query_program.specs.declared.stop.Stop.{Stop}
 use Rattle.query_program.specs.declared.stop.Stop.TheVariants.{ReadFault, WriteFault, OutOfMemory, LineTooLong, InputTooLong}

@@ -1,5 +1,5 @@
 -- A session stays whole where a step finds memory.
-use Rattle.std.proofs.Common.{◌≡◌, ◌+◌, ℕ, sym, ap, ◌∙◌, false, true, is_err, Result, Ok, Err, OnOk, ◌⊎◌, inl, inr, arith}
+use Rattle.std.proofs.Common.{◌≡◌, ap, ◌∙◌, false, is_err, Result, Ok, Err, OnOk, ◌⊎◌, inl, inr, arith}
 use Rattle.std.specs.FinMap as finite
 use Rattle.slot_accounts.specs.Account.{Keeps}
 use Rattle.slot_table.specs.Owners.{PassSeen, HeapId}

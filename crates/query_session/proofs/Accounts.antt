@@ -1,10 +1,10 @@
 -- Accounts of calls, put together.
-use Rattle.std.proofs.Common.{◌≡◌, ◌≢◌, ℕ, ◌+◌, ◌≤◌, All, refl, sym, ap, ◌∙◌, subst, List, [], ◌++◌, append-nil, Bool, true, false, Option, Some, None, MatchBool, Result, Ok, Err, OnOk, IfOk, IfErr, OnErr, arith}
+use Rattle.std.proofs.Common.{◌≡◌, ◌≢◌, ℕ, ◌+◌, ◌≤◌, All, refl, sym, ap, ◌∙◌, subst, List, [], ◌++◌, Bool, true, false, Option, Some, MatchBool, Result, Ok, Err, OnOk, IfOk, IfErr, OnErr, arith}
 use Rattle.std.specs.FinMap as finite
 use Rattle.std.specs.Str.{bytes_eq}
 use Rattle.slot_model.specs.declared.event.Event.{Event}
 use Rattle.slot_table.specs.Owners.{PassSeen}
-use Rattle.slot_accounts.specs.Account.{Did, Keeps, Shows, sum_of, giving_up}
+use Rattle.slot_accounts.specs.Account.{Did, Keeps, Shows, sum_of}
 use Rattle.slot_accounts.specs.Counts.{publishes, retains}
 use Rattle.slot_accounts.proofs.Doing.{Did-nothing, Did-then}
 use Rattle.str_value.specs.Meaning.{Meaning, Place, own, shared, fixed, OfHeap, is_there, side_of}
@@ -22,9 +22,8 @@ use Rattle.query_lines.specs.declared.op.Op.{Op}
 use Rattle.query_lines.specs.declared.reply.OpReply.{OpReply}
 use Rattle.batch_workers.specs.Ops.{op_replies, text_after_ops, is_counts, is_at}
 use Rattle.batch_workers.specs.Working.{IsRead, edits_of}
-use Rattle.query_session.specs.State.{has_room, is_in_use}
-use Rattle.query_session.specs.Values.{Values, IsSound, texts_of, credits_in, credit_in, weight}
-use Rattle.query_session.specs.Steps.{Done, Stepped, Accounted, Unmoved, CopiedTo, CopiedIn, Loaded, Makes, Acted, IsLoading}
+use Rattle.query_session.specs.Values.{Values, IsSound, credits_in, credit_in}
+use Rattle.query_session.specs.Steps.{Done, Stepped, Accounted, Unmoved, CopiedTo, CopiedIn, Makes, Acted, IsLoading}
 use Rattle.query_session.proofs.Sums.{credits_in-remove}
 use Rattle.query_session.proofs.Storing.{changed-credits, changed-sound, removed-sound}
 

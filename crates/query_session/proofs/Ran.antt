@@ -1,5 +1,5 @@
 -- Ops on the text of a name.
-use Rattle.std.proofs.Common.{◌≡◌, sym, ap, ◌∙◌, ℕ, List, Option, Some, None, Result, Ok, Err, OnErr, take}
+use Rattle.std.proofs.Common.{◌≡◌, sym, ap, ◌∙◌, ℕ, List, Some, None, Result, Ok, Err, OnErr, take}
 use Rattle.query_lines.specs.declared.op.Op.{Op}
 use Rattle.query_lines.specs.declared.reply.OpReply.{OpReply}
 use Rattle.query_lines.specs.declared.reply.Refusal.TheVariants as refusal

@@ -1,5 +1,5 @@
 -- The texts after a command, and its reply.
-use Rattle.std.proofs.Common.{◌≡◌, refl, sym, ap, ◌∙◌, Bool, true, false, cond, List, ℕ, Option, Some, None, is_some}
+use Rattle.std.proofs.Common.{◌≡◌, sym, ap, ◌∙◌, true, List, ℕ, Some, None, is_some}
 use Rattle.std.proofs.lemmas.Bool.{cond-true, cond-false}
 use Rattle.std.specs.FinMap as finite
 use Rattle.str_value.specs.Meaning.{Meaning}

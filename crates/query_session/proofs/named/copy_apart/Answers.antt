@@ -1,4 +1,4 @@
-use Rattle.std.proofs.Common.{sym, ap, ◌∙◌, string_bytes}
+use Rattle.std.proofs.Common.{ap, ◌∙◌, string_bytes}
 use Rattle.query_session.specs.State.{State, has_room}
 use Rattle.query_session.specs.Values.{texts_of}
 use Rattle.query_session.proofs.Ran.{whatever}

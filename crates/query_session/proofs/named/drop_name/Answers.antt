@@ -1,4 +1,4 @@
-use Rattle.std.proofs.Common.{◌≡◌, sym, ap, ◌∙◌, subst, List, ℕ, string_bytes}
+use Rattle.std.proofs.Common.{◌≡◌, sym, ap, ◌∙◌, subst, List, ℕ}
 use Rattle.query_lines.specs.declared.command.Command.TheVariants as command
 use Rattle.query_lines.specs.declared.reply.Refusal.TheVariants as refusal
 use Rattle.query_lines.specs.declared.reply.Reply.{Reply}

@@ -1,5 +1,3 @@
-use Rattle.std.proofs.Common.{refl, []}
-use Rattle.slot_accounts.proofs.Doing.{Did-nothing}
 use Rattle.query_session.proofs.Accounts.{nothing-published}
 use Rattle.query_session.proofs.stored.release_old.Goals as goal
 

@@ -5,8 +5,7 @@ use Rattle.std.specs.FinMap as finite
 use Rattle.std.proofs.lemmas.Cmp.{tied_itself}
 use Rattle.std.proofs.lemmas.Result.{IfOk-weaker}
 use Rattle.canon_order.specs.Equivalence.{order_of}
-use Rattle.str_value.specs.Meaning.{Meaning}
-use Rattle.query_session.specs.State.{State, text_of, is_in_use, store}
+use Rattle.query_session.specs.State.{State, text_of, is_in_use}
 use Rattle.query_session.specs.Values.{Values, texts_of}
 use Rattle.query_session.proofs.Sums.{texts-insert, has-texts}
 use Rattle.query_session.proofs.Held.{one-text, text_in_use}

@@ -1,5 +1,4 @@
-use Rattle.std.proofs.Common.{◌≡◌, sym, ap, ◌∙◌, true, false, Some, true≢false}
-use Rattle.std.specs.FinMap as finite
+use Rattle.std.proofs.Common.{sym, ap, ◌∙◌, Some, true≢false}
 use Rattle.canon_order.specs.Equivalence.{order_of}
 use Rattle.std.proofs.lemmas.Result.{IfOk-weaker}
 use Rattle.query_session.specs.State.{text_of, is_in_use}

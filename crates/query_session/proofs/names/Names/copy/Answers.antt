@@ -1,4 +1,4 @@
-use Rattle.std.proofs.Common.{◌≡◌, Some, sym, ap, ◌∙◌, true≢false, arith}
+use Rattle.std.proofs.Common.{Some, sym, ap, ◌∙◌, true≢false, arith}
 use Rattle.std.specs.FinMap as finite
 use Rattle.std.proofs.lemmas.Result.{IfOk-weaker}
 use Rattle.query_session.specs.State.{is_in_use}

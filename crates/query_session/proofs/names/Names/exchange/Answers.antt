@@ -1,4 +1,4 @@
-use Rattle.std.proofs.Common.{◌≡◌, sym, ap, ◌∙◌, true, false, Some, true≢false}
+use Rattle.std.proofs.Common.{sym, ap, ◌∙◌, Some, true≢false}
 use Rattle.std.specs.FinMap as finite
 use Rattle.query_session.specs.State.{is_in_use}
 use Rattle.query_session.specs.Values.{Values, texts_of}

@@ -1,6 +1,6 @@
-use Rattle.std.proofs.Common.{◌≡◌, Some, None, sym, ap, ◌∙◌}
+use Rattle.std.proofs.Common.{sym, ap, ◌∙◌}
 use Rattle.std.specs.FinMap as finite
-use Rattle.query_session.specs.State.{store, text_of, is_in_use}
+use Rattle.query_session.specs.State.{store, is_in_use}
 use Rattle.query_session.specs.Values.{Values, texts_of}
 use Rattle.query_session.specs.Held.{held}
 use Rattle.query_session.proofs.Sums.{texts-insert}
