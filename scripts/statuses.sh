@@ -53,11 +53,29 @@ printf '%s\n' "$load" | "$program" >/dev/full 2>"$work/err" || got=$?
 : >"$work/out"
 compare "a write fault" 4 "$got" $'strq: write fault\n' ""
 
-# Less memory than the line has bytes.
+# Too little memory for the shared heap, which is opened before anything is read.
 got=0
-{ printf '%s\n{"load":"b","text":"' "$load"; head -c 4000000 /dev/zero | tr '\0' b; printf '"}\n'; } >"$work/large"
-(ulimit -v 8000 && exec "$program") <"$work/large" >"$work/out" 2>"$work/err" || got=$?
-compare "want of memory" 5 "$got" $'strq: out of memory\n' "$counts"$'\n'
+printf '%s\n' "$load" >"$work/short"
+(ulimit -v 8000 && exec "$program") <"$work/short" >"$work/out" 2>"$work/err" || got=$?
+compare "want of memory at the start" 5 "$got" $'strq: out of memory\n' ""
+
+# The least memory, by steps of 2 MB, with which a short line is answered isn't enough for twelve texts of 4 MB besides. Which of them is
+# the first that finds none depends on the machine.
+memory=8000
+until (ulimit -v "$memory" && exec "$program") <"$work/short" >"$work/out" 2>"$work/err"; do
+  memory=$((memory + 2000))
+  [ "$memory" -lt 100000 ] || { echo "a short line wants more than 100 MB" >&2; exit 1; }
+done
+{
+  cat "$work/short"
+  for name in {b..m}; do printf '{"load":"%s","text":"' "$name"; head -c 4000000 /dev/zero | tr '\0' b; printf '"}\n'; done
+} >"$work/large"
+"$program" <"$work/large" >"$work/all"
+got=0
+(ulimit -v "$memory" && exec "$program") <"$work/large" >"$work/out" 2>"$work/err" || got=$?
+head -n "$(wc -l <"$work/out")" "$work/all" >"$work/first"
+compare "want of memory" 5 "$got" $'strq: out of memory\n' "$(cat "$work/first")"$'\n'
+[ "$(wc -l <"$work/out")" -lt "$(wc -l <"$work/all")" ] || { echo "want of memory: all was answered" >&2; exit 1; }
 
 # The lines before the long one are answered, and no byte of it.
 { printf '%s\n' "$load"; head -c 5000000 /dev/zero | tr '\0' b; } >"$work/long_line"
