@@ -69,6 +69,46 @@ def counts():
     return "\n".join(lines) + "\n"
 
 
+def edits():
+    """10,000 edits of a few bytes at random places of one text of 40 KB, 100 a line."""
+    text = mixed_text(40_000)
+    units = len(text.encode("utf-16-le")) // 2
+    draw = random.Random(2)
+    lines = [line({"load": "doc", "text": text})]
+    for _ in range(100):
+        ops = []
+        for _ in range(100):
+            at = draw.randrange(units - 8)
+            ops.append({"edit": [at, at + draw.randrange(4)], "with": "aé😀"[: draw.randrange(4)]})
+        lines.append(line({"on": "doc", "do": ops}))
+    return "\n".join(lines) + "\n"
+
+
+def edited_copies():
+    """2,000 copies of a text of 60 KB, each edited once."""
+    text = mixed_text(60_000)
+    units = len(text.encode("utf-16-le")) // 2
+    draw = random.Random(3)
+    lines = [line({"load": "doc", "text": text})]
+    for k in range(2000):
+        at = draw.randrange(units)
+        lines.append(line({"copy": f"copy{k % 100}", "from": "doc"}))
+        lines.append(line({"on": f"copy{k % 100}", "do": [{"edit": [at, at], "with": "x"}]}))
+    return "\n".join(lines) + "\n"
+
+
+def slices():
+    """20,000 slices of 60 units out of a text of 60 KB, 100 a line."""
+    text = mixed_text(60_000)
+    units = len(text.encode("utf-16-le")) // 2
+    draw = random.Random(4)
+    lines = [line({"load": "doc", "text": text})]
+    for _ in range(200):
+        starts = [draw.randrange(units - 60) for _ in range(100)]
+        lines.append(line({"on": "doc", "do": [{"slice": [at, at + 60]} for at in starts]}))
+    return "\n".join(lines) + "\n"
+
+
 folder = sys.argv[1]
 for name, text in (
     ("small_loads", small_loads(4_000_000)),
@@ -77,6 +117,9 @@ for name, text in (
     ("questions_units", questions(True)),
     ("counts", counts()),
     ("small_loads_twice", small_loads(8_000_000)),
+    ("edits", edits()),
+    ("edited_copies", edited_copies()),
+    ("slices", slices()),
 ):
     with open(f"{folder}/{name}.jsonl", "w", encoding="utf-8") as out:
         out.write(text)
