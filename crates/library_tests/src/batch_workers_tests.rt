@@ -15,7 +15,7 @@ use value_heaps::{closed, ended};
 use word_units::Text;
 
 /// The ops of the list in a line.
-fn ops_of(alloc: Global, list: &str) -> Result<Ops, Fail>
+pub(crate) fn ops_of(alloc: Global, list: &str) -> Result<Ops, Fail>
     ensures { IfOk result (All IsWellFormedOp) }
 {
     let line = format!(in alloc; "{{\"on\":\"a\",\"do\":{list}}}")?;

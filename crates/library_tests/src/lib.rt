@@ -5,6 +5,8 @@
 #![tactic(auto)]
 
 #[cfg(test)]
+mod batch_tests;
+#[cfg(test)]
 mod batch_workers_tests;
 #[cfg(test)]
 mod batch_workers_view_tests;
