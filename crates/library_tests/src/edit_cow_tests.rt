@@ -5,7 +5,7 @@ ghost use Rattle.str_value.specs.Meaning.{OfHeap};
 use crate::heaps::{SLOTS, heap_of, whole};
 use edit_cow::{EditError, Wrote, append, replace, reserve};
 use index_words::Index;
-use object_words::Form;
+use object_words::{Form, Object};
 use std::alloc::{AllocError, Global};
 use std::marker::Brand;
 use std::process::Abort;
@@ -16,7 +16,7 @@ use value_heaps::{closed, ended};
 use word_units::{OutOfBounds, Steps};
 
 /// The bits of an index word that say in which units its position is read.
-const UTF8: u64 = 4;
+pub(crate) const UTF8: u64 = 4;
 
 const UTF16: u64 = 8;
 
@@ -41,7 +41,7 @@ fn replaced_with<'h, L: Ledger>(
 }
 
 /// `replace` with two index words.
-fn replaced<'h>(
+pub(crate) fn replaced<'h>(
     rt: &impl Abort,
     alloc: Global,
     value: &mut Str<'h>,
@@ -76,7 +76,8 @@ fn appended_with<'h, L: Ledger>(
     append(alloc, value, pass, with, &mut steps)
 }
 
-fn appended<'h>(
+/// `append`.
+pub(crate) fn appended<'h>(
     alloc: Global,
     value: &mut Str<'h>,
     pass: &mut StrPass<'h>,
@@ -106,12 +107,14 @@ fn value_of<'h>(alloc: Global, pass: &mut StrPass<'h>, source: Source) -> Result
     }
 }
 
-/// A value has the text, and the form and the two words of one that is made of it; but two values in slots have each a slot of its own.
+/// A value has the text. It has the form and the two words of one that is made of it, but that two values in slots have each a slot of its
+/// own, and that a short text stays in the slot that it is written in.
 fn stands_as<'h>(
     rt: &impl Abort,
     alloc: Global,
     value: &mut Str<'h>,
     pass: &mut StrPass<'h>,
+    wrote: Wrote,
     text: &str,
 ) -> Result<(), Fail>
     ensures one_heap { pass.new.heap ≡ pass.old.heap }
@@ -119,6 +122,13 @@ fn stands_as<'h>(
 {
     let bytes = whole(alloc, value)?;
     assert_eq!(rt; bytes.as_slice(), text.as_bytes(), "{text}");
+    if wrote == Wrote::InPlace && text.len() <= 15 {
+        let all = text.is_ascii();
+        let in_slot = Object::native(all, all, text.len() as u64, 0);
+        assert_eq!(rt; value.form(), Form::Native, "{text}");
+        assert_eq!(rt; value.object().w0(), in_slot.w0(), "{text}");
+        return Ok(());
+    }
     let fresh = Str::from_utf8(alloc, pass, text.as_bytes())?;
     let (is, wanted) = (value.object(), fresh.object());
     assert_eq!(rt; is.w0(), wanted.w0(), "{text}");
@@ -129,9 +139,11 @@ fn stands_as<'h>(
     Ok(())
 }
 
-/// Where a text of so many bytes stands in a heap with so many slots.
-fn where_it_stands(text: &str, slots: u32) -> Wrote {
-    if text.len() <= 15 {
+/// Where a text stands that a value of this form, which shares its slot with nobody, is edited to in a heap with so many slots.
+fn where_it_stands(form: Form, text: &str, slots: u32) -> Wrote {
+    if form == Form::Native && text.len() <= 248 {
+        Wrote::InPlace
+    } else if text.len() <= 15 {
         Wrote::Small
     } else if slots > 0 {
         Wrote::Copied
@@ -150,14 +162,19 @@ fn edit_is(rt: &impl Abort, alloc: Global, slots: u32, row: Row) -> Result<(), F
     let (heap, all) = heap_of(rt, alloc, slots)?;
     let mut pass = heap.pass(all);
     let mut value = value_of(alloc, &mut pass, source)?;
+    let form = value.form();
     let wrote = replaced(rt, alloc, &mut value, &mut pass, words, with.as_bytes())?;
     assert_eq!(rt;
         wrote,
-        where_it_stands(wanted, slots),
+        where_it_stands(form, wanted, slots),
         "{with} makes {wanted}"
     );
-    stands_as(rt, alloc, &mut value, &mut pass, wanted)?;
-    assert_eq!(rt; value.known_sole(), wrote == Wrote::Copied, "{wanted}");
+    stands_as(rt, alloc, &mut value, &mut pass, wrote, wanted)?;
+    assert_eq!(rt;
+        value.known_sole(),
+        value.form() == Form::Native,
+        "{wanted}"
+    );
     assert!(rt; !reserve(&mut value, &mut pass));
     value.release(&mut pass);
     let all = ended(pass).expect(rt, "something is still out");
@@ -173,7 +190,8 @@ fn edits_are(rt: &impl Abort, alloc: Global, row: Row) -> Result<(), Fail> {
     Ok(())
 }
 
-fn at(position: u64, mark: u64) -> u64 {
+/// The index word of a position whose unit has this mark.
+pub(crate) fn at(position: u64, mark: u64) -> u64 {
     position.saturating_mul(65_536).saturating_add(mark)
 }
 
@@ -280,18 +298,25 @@ fn units_become_utf8(rt: &impl Abort, alloc: Global, slots: u32) -> Result<(), F
         (object.w0(), object.w1()),
         (0x80_989F_F078, 0xA500_0000_0000_0000)
     );
-    stands_as(rt, alloc, &mut value, &mut pass, "x😀")?;
+    stands_as(rt, alloc, &mut value, &mut pass, wrote, "x😀")?;
     value.release(&mut pass);
     let mut value = Str::from_utf16(alloc, &mut pass, &[0x61, 0xD800, 0x62])?;
     let wrote = appended(alloc, &mut value, &mut pass, "0123456789".as_bytes())?;
     assert_eq!(rt; wrote, Wrote::Small);
-    stands_as(rt, alloc, &mut value, &mut pass, "a\u{FFFD}b0123456789")?;
+    stands_as(
+        rt,
+        alloc,
+        &mut value,
+        &mut pass,
+        wrote,
+        "a\u{FFFD}b0123456789",
+    )?;
     let wrote = appended(alloc, &mut value, &mut pass, "".as_bytes())?;
     assert_eq!(rt; wrote, Wrote::Small);
     let wrote = appended(alloc, &mut value, &mut pass, "é".as_bytes())?;
     let wanted = "a\u{FFFD}b0123456789é";
-    assert_eq!(rt; wrote, where_it_stands(wanted, slots));
-    stands_as(rt, alloc, &mut value, &mut pass, wanted)?;
+    assert_eq!(rt; wrote, where_it_stands(Form::Small, wanted, slots));
+    stands_as(rt, alloc, &mut value, &mut pass, wrote, wanted)?;
     value.release(&mut pass);
     let all = ended(pass).expect(rt, "something is still out");
     let (slots, idle) = closed(heap, all);
@@ -315,7 +340,7 @@ fn left_as_it_was<'h>(
     pass: &mut StrPass<'h>,
     words: (u64, u64),
     with: &[u8],
-    wanted: EditError,
+    wanted: &EditError,
 ) -> Result<(), Fail>
     requires heap { OfHeap pass.old value.old.place }
     ensures one_heap { pass.new.heap ≡ pass.old.heap }
@@ -325,7 +350,7 @@ fn left_as_it_was<'h>(
     let object = value.object();
     match replaced(rt, alloc, value, pass, words, with) {
         Ok(_) => assert!(rt; false, "{words:?} was edited"),
-        Err(fault) => assert_eq!(rt; fault, wanted, "{words:?}"),
+        Err(fault) => assert_eq!(rt; &fault, wanted, "{words:?}"),
     }
     let after = whole(alloc, value)?;
     assert_eq!(rt; after.as_slice(), before.as_slice(), "{words:?}");
@@ -345,7 +370,7 @@ fn refusal_is(
     source: Source,
     words: (u64, u64),
     with: &[u8],
-    wanted: EditError,
+    wanted: &EditError,
 ) -> Result<(), Fail> {
     let (heap, all) = heap_of(rt, alloc, slots)?;
     let mut pass = heap.pass(all);
@@ -367,8 +392,10 @@ fn refused(
     with: &[u8],
     wanted: EditError,
 ) -> Result<(), Fail> {
-    refusal_is(rt, alloc, 0, source, words, with, wanted)?;
-    refusal_is(rt, alloc, 4, source, words, with, wanted)
+    for slots in SLOTS {
+        refusal_is(rt, alloc, slots, source, words, with, &wanted)?;
+    }
+    Ok(())
 }
 
 fn out_of(position: u64, low: u64, high: u64) -> EditError {
@@ -525,6 +552,7 @@ fn append_is_refused<'h>(
     assert_eq!(rt; fault, Some(wanted));
 }
 
+#[tactic(auto, using(value_heaps::proofs::Moving::of_heap_moves))]
 #[test]
 fn the_longest_text_takes_no_more(rt: HostRuntime) -> Result<(), Fail> {
     let alloc = rt.alloc();
@@ -565,7 +593,7 @@ fn a_text_goes_into_a_slot_as_far_as_it_fits(rt: HostRuntime) -> Result<(), Fail
         (at(0, UTF8), at(1, UTF8)),
         b"",
     )?;
-    assert_eq!(rt; wrote, [Wrote::Copied, Wrote::Owned, Wrote::Copied]);
+    assert_eq!(rt; wrote, [Wrote::InPlace, Wrote::Owned, Wrote::Copied]);
     Ok(())
 }
 

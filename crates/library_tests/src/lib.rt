@@ -15,6 +15,8 @@ mod canon_order_tests;
 #[cfg(test)]
 mod edit_cow_tests;
 #[cfg(test)]
+mod edits_in_place_tests;
+#[cfg(test)]
 mod example_tests;
 #[cfg(test)]
 mod heaps;

@@ -284,8 +284,8 @@ fn a_text_is_replaced_in_part_in_every_form(rt: HostRuntime) -> Result<(), MakeE
             long,
             (16, 18, "€"),
             "aaaaaaaaaaaaaaaa€😀b",
-            Form::Owned,
-            1,
+            Form::Native,
+            0,
         ),
         (
             0,
@@ -311,8 +311,8 @@ fn a_text_is_replaced_in_part_in_every_form(rt: HostRuntime) -> Result<(), MakeE
             long,
             (8, 22, ""),
             "aaaaaaaab",
-            Form::Small,
-            2,
+            Form::Native,
+            1,
         ),
         (
             2,
