@@ -1,5 +1,5 @@
 //! Parts of values, values of vectors, and texts replaced in part.
-ghost use Rattle.std.specs.Prelude.{◌≡◌, ◌≤◌, IfOk};
+ghost use Rattle.std.specs.Prelude.{◌≡◌, ◌≤◌, IfOk, length};
 ghost use Rattle.word_units.specs.Parts.{IsBoundaryIn};
 ghost use Rattle.str_value.specs.Meaning.{OfHeap, own_part};
 
@@ -393,6 +393,115 @@ fn a_vector_becomes_the_value_of_its_bytes(rt: HostRuntime) -> Result<(), MakeEr
             form,
             "{text}, slots {slots}"
         );
+    }
+    Ok(())
+}
+
+/// The plain program: a vector with other bytes in place of a part.
+fn plain(
+    alloc: Global,
+    old: &[u8],
+    low: usize,
+    high: usize,
+    with: &[u8],
+) -> Result<Vec<u8>, MakeError>
+    requires order { low ≤ high }
+    requires inside { high ≤ length old.now }
+{
+    let mut new = Vec::from_slice(alloc, &old[..low])?;
+    new.extend_from_slice(with)?;
+    new.extend_from_slice(&old[high..])?;
+    Ok(new)
+}
+
+/// The storage's place of a byte of the text, where a scalar begins there or the text ends.
+fn place_of(source: Source, text: &str, byte: usize) -> Option<u64> {
+    let mut units: u64 = 0;
+    let mut place = None;
+    for (at, scalar) in text.char_indices() {
+        if at == byte {
+            place = Some(units);
+        }
+        units = units.wrapping_add(scalar.len_utf16() as u64);
+    }
+    if byte == text.len() {
+        place = Some(units);
+    }
+    if source == Source::Utf16 {
+        place
+    } else {
+        place.map(|_units| byte as u64)
+    }
+}
+
+/// The text is replaced in part in a heap of so many slots, where the part lies between two of its scalars: what it is then is what the
+/// plain program says.
+fn splice_agrees(
+    rt: &impl Abort,
+    alloc: Global,
+    slots: u32,
+    source: Source,
+    text: &str,
+    part: (usize, usize),
+    with: &str,
+) -> Result<(), MakeError> {
+    let (low, high) = part;
+    if low > high || high > text.len() {
+        return Ok(());
+    }
+    let Some(from) = place_of(source, text, low) else {
+        return Ok(());
+    };
+    let Some(to) = place_of(source, text, high) else {
+        return Ok(());
+    };
+    let wanted = plain(alloc, text.as_bytes(), low, high, with.as_bytes())?;
+    let wanted = std::str::from_utf8(wanted.as_slice()).expect(rt, "a text");
+    splice_stands(rt, alloc, slots, source, text, (from, to, with), wanted)?;
+    Ok(())
+}
+
+/// Each place of a word, with parts and texts in their place that end before a word's edge, at it and behind it.
+fn splices_agree(
+    rt: &impl Abort,
+    alloc: Global,
+    slots: u32,
+    source: Source,
+    text: &str,
+) -> Result<(), MakeError> {
+    let edits = [
+        (0, ""),
+        (0, "é0123456789"),
+        (1, "xyz"),
+        (2, "0123456789abcdef"),
+        (9, "€"),
+        (17, "abcdefgh"),
+        (60, "q"),
+    ];
+    for low in 0..18 {
+        for (size, with) in edits {
+            splice_agrees(rt, alloc, slots, source, text, (low, low + size), with)?;
+        }
+    }
+    Ok(())
+}
+
+#[test]
+fn splices_agree_with_a_plain_program(rt: HostRuntime) -> Result<(), MakeError> {
+    let long =
+        "abcdefghijklmnopé€😀bcdefghijklmnopqrstuvwxyz0123456789abcdefghijklmnopqrstuvwxyz😀😀€éabc";
+    for text in ["aé€😀b", "abcdefghijklmnopq", long] {
+        for (slots, source) in [
+            (0, Source::Utf8),
+            (1, Source::Utf8),
+            (2, Source::Utf8),
+            (1, Source::Literal),
+            (0, Source::Utf16),
+            (1, Source::Utf16),
+            (2, Source::Utf16),
+        ] {
+            splices_agree(&rt, rt.alloc(), slots, source, text)?;
+        }
     }
     Ok(())
 }
