@@ -78,6 +78,51 @@ fn edit_makes<'h>(
     reads(rt, alloc, value, text)
 }
 
+/// Edits of a value of `LETTERS`, which is alone in its slot: each is written over the text, whatever its length and marks are then.
+fn edits_follow<'h>(
+    rt: &impl Abort,
+    alloc: Global,
+    value: &mut Str<'h>,
+    pass: &mut StrPass<'h>,
+) -> Result<(), Fail>
+    requires heap { OfHeap pass.old value.old.place }
+    ensures one_heap { pass.new.heap ≡ pass.old.heap }
+    ensures heap { OfHeap pass.new value.new.place }
+{
+    let longer = "aaaaaaaaaaaaaaaaaaaa!";
+    let mixed = "aaaaaaaaaaaaaaaaaaaa!é";
+    let rows = [
+        (None, "!", longer),
+        (None, "é", mixed),
+        (Some((21, 23)), "", longer),
+        (Some((1, 19)), "", "aa!"),
+        (Some((0, 3)), "", ""),
+        (Some((0, 0)), mixed, mixed),
+    ];
+    'rows: for (part, with, text) in rows {
+        let wanted = (Wrote::InPlace, text.as_bytes());
+        edit_makes(rt, alloc, value, pass, (part, with.as_bytes()), wanted)?;
+    }
+    Ok(())
+}
+
+#[tactic(auto, using(value_heaps::proofs::Moving::of_heap_moves))]
+#[test]
+fn a_value_that_outlives_its_copy_is_written_over(rt: HostRuntime) -> Result<(), Fail> {
+    let alloc = rt.alloc();
+    let (heap, all) = heap_of(&rt, alloc, 2)?;
+    let mut pass = heap.pass(all);
+    let mut value = Str::from_utf8(alloc, &mut pass, LETTERS.as_bytes())?;
+    let copy = value.copy(alloc, &mut pass)?;
+    copy.release(&mut pass);
+    edits_follow(&rt, alloc, &mut value, &mut pass)?;
+    value.release(&mut pass);
+    let all = ended(pass).expect(&rt, "something is still out");
+    let (slots, idle) = closed(heap, all);
+    assert_eq!(rt; slots, idle, "slots and idle slots");
+    Ok(())
+}
+
 /// The first of two owners of a slot is edited and then the second. The second keeps its text until then, and both go.
 #[tactic(auto, using(value_heaps::proofs::Moving::of_heap_moves))]
 fn owners_are_edited(
