@@ -175,7 +175,12 @@ fn edit_is(rt: &impl Abort, alloc: Global, slots: u32, row: Row) -> Result<(), F
         value.form() == Form::Native,
         "{wanted}"
     );
-    assert!(rt; !reserve(&mut value, &mut pass));
+    let reserved = reserve(&mut value, &mut pass);
+    assert_eq!(rt; reserved, slots > 0, "{wanted}");
+    let is = (value.form() == Form::Native, value.known_sole());
+    assert_eq!(rt; is, (reserved, reserved), "{wanted}");
+    let bytes = whole(alloc, &mut value)?;
+    assert_eq!(rt; bytes.as_slice(), wanted.as_bytes(), "{wanted}");
     value.release(&mut pass);
     let all = ended(pass).expect(rt, "something is still out");
     let (slots, idle) = closed(heap, all);
@@ -552,26 +557,31 @@ fn append_is_refused<'h>(
     assert_eq!(rt; fault, Some(wanted));
 }
 
+/// A value of the longest text, which nothing can be appended to.
 #[tactic(auto, using(value_heaps::proofs::Moving::of_heap_moves))]
-#[test]
-fn the_longest_text_takes_no_more(rt: HostRuntime) -> Result<(), Fail> {
-    let alloc = rt.alloc();
-    let many = vec![in alloc; b'a'; 16_777_216]?;
-    let (heap, all) = heap_of(&rt, alloc, 4)?;
+fn takes_no_more(rt: &impl Abort, alloc: Global, many: &[u8]) -> Result<(), Fail> {
+    let (heap, all) = heap_of(rt, alloc, 4)?;
     let mut pass = heap.pass(all);
-    let mut value = Str::from_utf8(alloc, &mut pass, many.as_slice())?;
+    let mut value = Str::from_utf8(alloc, &mut pass, many)?;
     let too_long = EditError::TooLong { len: 16_777_217 };
-    append_is_refused(&rt, alloc, &mut value, &mut pass, b"b", too_long);
+    append_is_refused(rt, alloc, &mut value, &mut pass, b"b", too_long);
     let not_utf8 = EditError::NotUtf8 { valid_up_to: 0 };
-    append_is_refused(&rt, alloc, &mut value, &mut pass, &[0xFF], not_utf8);
+    append_is_refused(rt, alloc, &mut value, &mut pass, &[0xFF], not_utf8);
     let bytes = whole(alloc, &mut value)?;
-    assert!(rt; bytes.as_slice() == many.as_slice(), "the text has changed");
+    assert!(rt; bytes.as_slice() == many, "the text has changed");
     let first = (at(0, UTF8), at(1, UTF8));
-    let wrote = replaced(&rt, alloc, &mut value, &mut pass, first, b"b")?;
+    let wrote = replaced(rt, alloc, &mut value, &mut pass, first, b"b")?;
     assert_eq!(rt; wrote, Wrote::Owned);
     assert_eq!(rt; value.lengths().utf8, 16_777_216);
     value.release(&mut pass);
     Ok(())
+}
+
+#[test]
+fn the_longest_text_takes_no_more(rt: HostRuntime) -> Result<(), Fail> {
+    let alloc = rt.alloc();
+    let many = vec![in alloc; b'a'; 16_777_216]?;
+    takes_no_more(&rt, alloc, many.as_slice())
 }
 
 /// A text of 248 bytes fits a slot, and one of 249 doesn't.
