@@ -65,15 +65,17 @@ pub returns-clause-published : goal.returns-clause-published
 returns-clause-published c = (
   c.publish-reference.result,
   refl,
-  (record {
-    fits = room c;
-    shows = c.in_ok-draft.ensures.shows;
-  },
-  ap (λ bs. native (is_ascii bs) (is_ascii bs) (length bs) c.publish-reference.result.slot) (held_is c),
-  is c ∙ ap (λ x. new_reference c.args.pass.now.heap c.publish-reference.new.pass.front x (c.draft_spliced-object.result.0.0 ∷ byte_words (new c))) (slot_is c)
-      ∙ ap (new_reference c.args.pass.now.heap c.publish-reference.new.pass.front c.publish-reference.result.slot)
-      (native-words c.draft_spliced-object.result.0 (new c) (is_ascii (new c)) c.in_ok-draft.draft.slot c.draft_spliced-object.ensures.object
-      c.draft_spliced-object.ensures.fits (utf8-bytes (new c) c.requires.utf8) refl)),
+  (
+    record {
+      fits = room c;
+      shows = c.in_ok-draft.ensures.shows;
+    },
+    ap (λ bs. native (is_ascii bs) (is_ascii bs) (length bs) c.publish-reference.result.slot) (held_is c),
+    is c ∙ ap (λ x. new_reference c.args.pass.now.heap c.publish-reference.new.pass.front x (c.draft_spliced-object.result.0.0 ∷ byte_words (new c))) (slot_is c)
+        ∙ ap (new_reference c.args.pass.now.heap c.publish-reference.new.pass.front c.publish-reference.result.slot)
+        (native-words c.draft_spliced-object.result.0 (new c) (is_ascii (new c)) c.in_ok-draft.draft.slot c.draft_spliced-object.ensures.object
+        c.draft_spliced-object.ensures.fits (utf8-bytes (new c) c.requires.utf8) refl),
+  ),
 )
 
 drawn : (c : goal.After-publish-reference) → IsDrawn c.args.pass.now c.draw.new.pass c.draft_spliced-object.result.1

@@ -42,14 +42,16 @@ returns-clause-text c = ap chars (held_is c)
 pub returns-clause-made : goal.returns-clause-made
 returns-clause-made c = (
   c.requires.long,
-  (record {
-    fits = omega (arith, c.capacity_words.ensures, c.if-bytes-capacity_words.false);
-    shows = c.in_ok-draft.ensures.shows;
-  },
-  ap (λ bs. native (is_ascii bs) (is_ascii bs) (length bs) c.publish-reference.result.slot) (held_is c),
-  is c ∙ ap (λ x. new_reference c.args.pass.now.heap c.publish-reference.new.pass.front x (c.native-object.result.0 ∷ byte_words c.args.bytes.now)) (slot_is c)
-      ∙ ap (new_reference c.args.pass.now.heap c.publish-reference.new.pass.front c.publish-reference.result.slot)
-      (native-words c.native-object.result c.args.bytes.now c.is_ascii-ascii.result c.in_ok-draft.draft.slot (says c) (fits c) (λ i. search (rules, c.type_inv.bytes i)) c.is_ascii-ascii.ensures)),
+  (
+    record {
+      fits = omega (arith, c.capacity_words.ensures, c.if-bytes-capacity_words.false);
+      shows = c.in_ok-draft.ensures.shows;
+    },
+    ap (λ bs. native (is_ascii bs) (is_ascii bs) (length bs) c.publish-reference.result.slot) (held_is c),
+    is c ∙ ap (λ x. new_reference c.args.pass.now.heap c.publish-reference.new.pass.front x (c.native-object.result.0 ∷ byte_words c.args.bytes.now)) (slot_is c)
+        ∙ ap (new_reference c.args.pass.now.heap c.publish-reference.new.pass.front c.publish-reference.result.slot)
+        (native-words c.native-object.result c.args.bytes.now c.is_ascii-ascii.result c.in_ok-draft.draft.slot (says c) (fits c) (λ i. search (rules, c.type_inv.bytes i)) c.is_ascii-ascii.ensures),
+  ),
 )
 
 drawn : (c : goal.After-publish-reference) → IsDrawn c.args.pass.now c.draw.new.pass c.write_utf8.new.draft
