@@ -4,4 +4,6 @@ pub mod Telling
 pub mod Backing
 pub mod Passing
 pub mod FillingLemmas
+pub mod Beginning
 pub mod Running
+pub mod Spreading

@@ -1,5 +1,5 @@
 -- Eight bytes of ASCII, and one scalar by its lead byte.
-use Rattle.std.proofs.Common.{◌≡◌, refl, sym, ap, subst, ◌∙◌, ℕ, zero, suc, ◌+◌, ◌-◌, ◌*◌, ◌/◌, ◌%◌, ◌^◌, ◌<◌, ◌≤◌, inl, inr, ⊎_elim, List, get_or, arith, Some}
+use Rattle.std.proofs.Common.{◌≡◌, refl, sym, ap, subst, ◌∙◌, ℕ, zero, suc, ◌+◌, ◌-◌, ◌*◌, ◌/◌, ◌%◌, ◌^◌, ◌<◌, ◌≤◌, inl, inr, ⊎_elim, List, length, get_or, arith, Some}
 use lib.Bits.{bit_and, and_block}
 use Rattle.std.proofs.lemmas.Bool.{cases_lt, cond-true, lt-ltb}
 use Rattle.std.specs.Char.{len_utf8}
@@ -11,6 +11,14 @@ use Rattle.std.specs.Option.{unwrap_or}
 use Rattle.std.proofs.str.Utf16.{lone_unit_char_low, lone_unit_char_high}
 use Rattle.text_spec.specs.Packed.{byte_of, unit_of, units_of, denoted_text, IsPair}
 use Rattle.text_spec.specs.Views.{size_in}
+use Rattle.std.specs.Str.{encode_utf8_all}
+use Rattle.text_spec.proofs.Bytes.{length-utf8}
+use Rattle.text_spec.proofs.Denoting.{denoted_as, utf8_words}
+use Rattle.text_spec.proofs.Walk.{down-start}
+use Rattle.text_spec.proofs.Widths.{len8_some}
+use Rattle.word_units.specs.Counting.{scalars_begun, bytes_begun, units_begun, within}
+use Rattle.word_units.proofs.Spreading.{within_left, within_le, scalars_few, units_few}
+use Rattle.word_units.proofs.Beginning.{crossed_bytes, near}
 use Rattle.word_units.specs.Running.{PassesRun}
 use Rattle.word_units.specs.Walking.{Passes}
 use Rattle.word_units.proofs.Passing.{passes}
@@ -73,56 +81,48 @@ one_run t at most next units p = record {
   size = inl refl;
 }
 
--- ---- the scalars from the boundary `at` to the boundary `next`, which begin in the word of `at`
-pub record Led (b : List ℕ) (at next units scalars : ℕ) : Type 0 where
-  pub number : down len_utf8 b next ≡ down len_utf8 b at + scalars
-  pub boundary : start len_utf8 b (down len_utf8 b next) ≡ next
-  pub other : start len_utf16 b (down len_utf8 b next) ≡ start len_utf16 b (down len_utf8 b at) + units
-  pub order : at ≤ next
-  pub reach : next ≤ at / 8 * 8 + 11
-  pub few : at + units ≤ next
-  pub more : scalars ≤ units
-  pub some : at < next → 1 ≤ scalars
-
-pub led_none : (b : List ℕ) (at : ℕ) → start len_utf8 b (down len_utf8 b at) ≡ at → Led b at at 0 0
-led_none b at begins = record {
-  number = omega arith;
-  boundary = begins;
-  other = omega arith;
-  order = omega arith;
-  reach = omega arith;
-  few = omega arith;
-  more = omega arith;
-  some = λ h. absurd (omega (arith, h));
-}
-
--- one scalar more, which begins in the word too
-pub led_on : (b : List ℕ) (first last at next units scalars end more : ℕ) → Led b at next units scalars → next / 8 ≡ at / 8
-    → Passes (part_of Utf8 b first last) next end more → next + more ≤ end → Led b at end (units + more) (scalars + 1)
-led_on b first last at next units scalars end more l near p within = record {
-  number = omega (arith, p.number, l.number);
-  boundary = p.boundary;
-  other = omega (arith, p.other, l.other);
-  order = omega (arith, l.order, p.ahead);
-  reach = omega (arith, near, p.near);
-  few = omega (arith, l.few, within);
-  more = omega (arith, l.more, p.some);
-  some = λ h. omega arith;
-}
-
-pub led_all : (e : Encoding) (b : List ℕ) (first end at most next units scalars : ℕ) → e ≡ Utf8 → Led b at next units scalars → ¬ (next / 8 ≡ at / 8) → at + most ≤ size_in Utf8 b → 11 ≤ most
-    → PassesRun (part_of e b first end) at most next units scalars
-led_all e b first end at most next units scalars is8 l past fits room =
-    let ahead : at < next = ⊎_elim (λ h. h) (λ (h : next ≤ at). let same : next ≡ at = omega (arith, l.order, h) in absurd (past (ap (λ n. n / 8) same))) (cases_lt at next) in
-    subst (λ x. PassesRun (part_of x b first end) at most next units scalars) (sym is8) (record {
-      number = l.number;
-      boundary = l.boundary;
-      other = l.other;
+-- ---- the scalars that begin in a word from the boundary `at` on
+pub word_run : (e : Encoding) (ws : List ℕ) (n : ℕ) (b : List ℕ) (first last at most word bytes units scalars : ℕ) → e ≡ Utf8 → n ≡ size_in e b → denoted_text e ws n ≡ Some b
+    → 11 ≤ most → at + most ≤ size_in Utf8 b → start len_utf8 b (down len_utf8 b at) ≡ at → word ≡ get_or ws (at / 8) 0 → word < 2 ^ 64
+    → bytes ≡ within bytes_begun 8 (word / 2 ^ (8 * (at % 8))) → units ≡ within units_begun 8 (word / 2 ^ (8 * (at % 8)))
+    → scalars ≡ within scalars_begun 8 (word / 2 ^ (8 * (at % 8)))
+    → PassesRun (part_of e b first last) at most (at + bytes - at % 8) (units - at % 8) (scalars - at % 8)
+word_run e ws n b first last at most word bytes units scalars is8 long denotes room fits boundary here small sum8 sum16 sum =
+    let j = 8 - at % 8 in
+    let w = word / 2 ^ (8 * (at % 8)) in
+    let k = down len_utf8 b at in
+    let text = utf8_words ws (size_in Utf8 b) b (denoted_as e Utf8 ws n b is8 long denotes) in
+    let long8 : length (encode_utf8_all b) ≡ size_in Utf8 b = length-utf8 b in
+    let bytes_is : bytes ≡ within bytes_begun j w + at % 8 = sum8 ∙ within_left bytes_begun refl word (at % 8) small (omega arith) in
+    let units_is : units ≡ within units_begun j w + at % 8 = sum16 ∙ within_left units_begun refl word (at % 8) small (omega arith) in
+    let scalars_is : scalars ≡ within scalars_begun j w + at % 8 = sum ∙ within_left scalars_begun refl word (at % 8) small (omega arith) in
+    let crossed = crossed_bytes ws b text.scalars text.held at word here boundary (omega (arith, fits, room)) j (omega arith) (omega (arith, fits, room, long8)) in
+    let m = k + within scalars_begun j w in
+    let next = at + within bytes_begun j w in
+    let place : at + j ≡ at / 8 * 8 + 8 = omega arith in
+    let reach = near b (at + j) m crossed.begun (omega arith) in
+    let same : down len_utf8 b next ≡ m = ap (down len_utf8 b) (sym crossed.bytes) ∙ down-start len_utf8 len8_some b m crossed.begun.inside in
+    let ends : at + bytes - at % 8 ≡ next = omega (arith, bytes_is) in
+    let takes : units - at % 8 ≡ within units_begun j w = omega (arith, units_is) in
+    let are : scalars - at % 8 ≡ within scalars_begun j w = omega (arith, scalars_is) in
+    let ahead : at < next = omega (arith, crossed.begun.next, crossed.bytes) in
+    let some : 1 ≤ within scalars_begun j w =
+    ⊎_elim (λ (h : within scalars_begun j w < 1). let stays : m ≡ k = omega (arith, h) in absurd (omega (arith, ap (start len_utf8 b) stays, crossed.bytes, boundary, ahead))) (λ h. h) (cases_lt (within scalars_begun j w) 1) in
+    let more = within_le scalars_begun units_begun scalars_few j w in
+    let few = within_le units_begun bytes_begun units_few j w in
+    subst (λ x. PassesRun (part_of x b first last) at most (at + bytes - at % 8) (units - at % 8) (scalars - at % 8)) (sym is8)
+    (subst (λ x. PassesRun (part_of Utf8 b first last) at most x (units - at % 8) (scalars - at % 8)) (sym ends)
+    (subst (λ x. PassesRun (part_of Utf8 b first last) at most next x (scalars - at % 8)) (sym takes)
+    (subst (λ x. PassesRun (part_of Utf8 b first last) at most next (within units_begun j w) x) (sym are)
+    (record {
+      number = same;
+      boundary = ap (start len_utf8 b) same ∙ crossed.bytes;
+      other = ap (start len_utf16 b) same ∙ crossed.units;
       ahead = ahead;
-      within = omega (arith, l.reach, fits, room);
-      some = omega (arith, l.some ahead, l.more);
-      size = inr (l.some ahead, l.more, omega (arith, l.few, l.reach, room), omega (arith, l.reach, room));
-    })
+      within = omega (arith, reach, crossed.bytes, fits, room);
+      some = omega (arith, some, more);
+      size = inr (some, more, omega (arith, few, reach, crossed.bytes, room), omega (arith, reach, crossed.bytes, room));
+    }))))
 
 module _ (e : Encoding) (ws : List ℕ) (n : ℕ) (b : List ℕ) (first_scalar last_scalar : ℕ) (is8 : e ≡ Utf8) (long : n ≡ size_in e b) (denotes : denoted_text e ws n ≡ Some b) where
   pub lead_passes : (at word lead width units : ℕ) → at < size_in Utf8 b → start len_utf8 b (down len_utf8 b at) ≡ at

@@ -5,3 +5,4 @@ pub mod Owned
 pub mod Walking
 pub mod Running
 pub mod Packing
+pub mod Counting

@@ -9,6 +9,7 @@
 
 mod bounds;
 mod content_words;
+mod counting;
 mod fill;
 mod floor;
 mod packing;
@@ -22,6 +23,7 @@ mod walk;
 
 pub use bounds::OutOfBounds;
 pub use content_words::{byte_word, unit_or_zero, unit_word};
+pub use counting::units_in;
 pub use fill::{fill_backward, fill_forward};
 pub use floor::boundary_at_or_before;
 pub use packing::{units_of_width, width_of_lead};

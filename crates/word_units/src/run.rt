@@ -7,6 +7,7 @@ ghost use Rattle.text_spec.specs.Boundaries.{IsScalarBoundary};
 ghost use Rattle.word_units.specs.Running.{PassesRun};
 ghost use Rattle.word_units.specs.Parts.{storage_size, IsBoundaryIn};
 
+use crate::counting::begun_in;
 use crate::packing::{bytes_of_code, bytes_of_units, has_no_half};
 use crate::scalar::code16_beside;
 use crate::steps::Steps;
@@ -35,16 +36,10 @@ fn pass_leads<T: Text>(t: &T, word: u64, at: u64, most: u64) -> (u64, u64, u64)
     ensures { PassesRun (T.part t.now) at most result.0 result.1 result.2 }
 {
     let _count = t.count();
-    let mut next = at;
-    let mut units = 0;
-    let mut scalars = 0;
-    'scalars: while next / 8 == at / 8 {
-        let (end, more) = pass_lead(t, word, next);
-        next = end;
-        units += more;
-        scalars += 1;
-    }
-    (next, units, scalars)
+    let passed = at % 8;
+    let (bytes, units, scalars) = begun_in(word >> (8 * passed));
+    // Of the bytes before `at` zeros are left behind the others, each of which counts as a scalar of one byte.
+    (at + bytes - passed, units - passed, scalars - passed)
 }
 
 /// What one word of UTF-8 tells: the scalars that begin in it, where there is room for them, or else one scalar.

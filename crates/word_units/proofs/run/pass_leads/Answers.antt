@@ -1,18 +1,17 @@
-use Rattle.std.proofs.Common.{subst}
-use Rattle.word_units.specs.Walking.{Passes}
-use Rattle.word_units.proofs.Running.{led_none, led_on, led_all}
+use Rattle.std.proofs.Common.{◌%◌, refl, arith}
+use Rattle.word_units.specs.Counting.{scalars_begun, units_begun}
+use Rattle.word_units.proofs.Spreading.{within_left}
+use Rattle.word_units.proofs.Running.{word_run}
 use Rattle.word_units.proofs.run.pass_leads.Goals as goal
-use Rattle.word_units.specs.Parts.{part_of}
 
-pub scalars-init : goal.scalars-init
-scalars-init g c = led_none (g.T.Text.part c.args.t.now).whole c.args.at c.requires.boundary
+pub overflow_sub-result-2 : goal.overflow_sub-result-2
+overflow_sub-result-2 g c = omega (arith, c.begun_in-bytes.ensures.units, within_left units_begun refl c.args.word (c.args.at % 8) c.ranges.word.fits (omega arith))
 
-pub scalars-preserved : goal.scalars-preserved
-scalars-preserved g c =
-    let t = g.T.Text.part c.args.t.now in
-    led_on t.whole t.first t.end c.args.at c.scalars.next c.scalars.units c.scalars.scalars _ _ c.scalars.invariant c.scalars-test.true
-    (subst (λ e. Passes (part_of e t.whole t.first t.end) c.scalars.next c.pass_lead-end.result.0 c.pass_lead-end.result.1) c.requires.encoding c.pass_lead-end.ensures.passes) c.pass_lead-end.ensures.few
+pub overflow_sub-result-3 : goal.overflow_sub-result-3
+overflow_sub-result-3 g c = omega (arith, c.begun_in-bytes.ensures.scalars, within_left scalars_begun refl c.args.word (c.args.at % 8) c.ranges.word.fits (omega arith))
 
 pub returns : goal.returns
 returns g c =
-    led_all _ (g.T.Text.part c.args.t.now).whole _ _ c.args.at c.args.most c.scalars.next c.scalars.units c.scalars.scalars c.requires.encoding c.scalars.invariant c.scalars-test.false c.requires.fits c.requires.room
+    word_run _ (g.T.Text.words c.args.t.now) _ (g.T.Text.part c.args.t.now).whole _ _ c.args.at c.args.most c.args.word c.begun_in-bytes.result.0 c.begun_in-bytes.result.1 c.begun_in-bytes.result.2
+    c.requires.encoding c.count-count.ensures.value c.count-count.ensures.denotes c.requires.room c.requires.fits c.requires.boundary c.requires.here c.ranges.word.fits
+    c.begun_in-bytes.ensures.bytes c.begun_in-bytes.ensures.units c.begun_in-bytes.ensures.scalars
