@@ -1,7 +1,6 @@
 pub mod Crumbing
 pub mod Indexed
 pub mod Seeing
-pub mod Spreading
 pub mod Growing
 pub mod Windows
 pub mod Matching

@@ -1,9 +1,9 @@
 -- Scalars and UTF-16 units, counted byte by byte.
-use Rattle.std.proofs.Common.{◌≡◌, refl, sym, ap, subst, ◌∙◌, ℕ, zero, suc, min, ◌+◌, ◌-◌, ◌*◌, ◌/◌, ◌%◌, ◌^◌, ◌<◌, ◌≤◌, Some, inl, inr, ⊎_elim, true, nat_lt, if◌then◌else◌, List, [], ◌∷◌, length, get_or, arith}
-use Rattle.std.proofs.lemmas.Bool.{cases_lt, cond-true, cond-false, lt-ltb, le-ltb}
-use Rattle.std.specs.Char.{encode_utf8, len_utf8}
+use Rattle.std.proofs.Common.{◌≡◌, refl, sym, ap, subst, ◌∙◌, ℕ, zero, suc, min, ◌+◌, ◌-◌, ◌*◌, ◌/◌, ◌%◌, ◌^◌, ◌<◌, ◌≤◌, Some, ⊎_elim, true, List, [], ◌∷◌, length, get_or, arith}
+use Rattle.std.proofs.lemmas.Bool.{cases_lt}
+use Rattle.std.specs.Char.{len_utf8}
 use Rattle.std.specs.Str.{all_scalars, encode_utf8_all}
-use Rattle.std.proofs.lemmas.Str.{len_utf8_bounds, length-encode}
+use Rattle.std.proofs.lemmas.Str.{len_utf8_bounds}
 use Rattle.text_spec.specs.declared.encoding.Encoding.{Encoding}
 use Rattle.text_spec.specs.declared.encoding.Encoding.TheVariants.{Utf8}
 use Rattle.text_spec.specs.Offsets.{len_utf16, start, down}
@@ -11,109 +11,45 @@ use Rattle.text_spec.specs.Packed.{denoted_text}
 use Rattle.text_spec.specs.Views.{size_in}
 use Rattle.text_spec.proofs.Denoting.{denoted_as, utf8_words}
 use Rattle.index_words.specs.Crumbs.{size16, index_word8, index16}
-use Rattle.crumbs.specs.Counting.{units_begun, units_within, Seen}
-use Rattle.text_spec.proofs.Walk.{start-zero, start-suc, start-le, start-mono, down-start, down-unique, down-end}
-use Rattle.text_spec.proofs.Bytes.{length-utf8, covered, byte-after, lead-boundary, decoded, Decoded}
+use Rattle.word_units.specs.Counting.{scalars_begun, units_begun, units_within}
+use Rattle.word_units.proofs.Beginning.{Begun, one_more, byte_lead, byte_rest, byte_begins}
+use Rattle.word_units.proofs.Spreading.{within_more}
+use Rattle.crumbs.specs.Counting.{Seen}
+use Rattle.text_spec.proofs.Walk.{start-zero, start-suc, start-le, down-unique, down-end}
+use Rattle.text_spec.proofs.Bytes.{length-utf8}
 use Rattle.text_spec.proofs.Widths.{len8_some}
 use Rattle.crumbs.proofs.Crumbing.{index16-at}
-use Rattle.crumbs.proofs.Spreading.{within_more}
 
-pub len_small : (c : ℕ) → c < 65536 → len_utf8 c ≤ 3
-len_small c h =
-    ⊎_elim (λ a. let e : len_utf8 c ≡ 1 = cond-true _ _ _ (lt-ltb c 128 a) in omega arith)
-    (λ a. ⊎_elim (λ b. let e : len_utf8 c ≡ 2 = cond-false _ _ _ (le-ltb c 128 a) ∙ cond-true _ _ _ (lt-ltb c 2048 b) in omega arith)
-    (λ b. let e : len_utf8 c ≡ 3 = cond-false _ _ _ (le-ltb c 128 a) ∙ cond-false _ _ _ (le-ltb c 2048 b) ∙ cond-true _ _ _ (lt-ltb c 65536 h) in omega arith)
-    (cases_lt c 2048)) (cases_lt c 128)
-
--- ---- what a byte tells
-pub byte-rest : (b : ℕ) → 128 ≤ b → b < 192 → units_begun b ≡ 0
-byte-rest b low high = cond-false _ _ _ (le-ltb b 128 low) ∙ cond-true _ _ _ (lt-ltb b 192 high)
-
-pub byte-lead : (c b : ℕ) → Decoded (encode_utf8 c) c → b ≡ get_or (encode_utf8 c) 0 0 → units_begun b ≡ len_utf16 c
-byte-lead c b d is =
-    ⊎_elim
-    (λ a. let one = d.one (omega arith) in cond-true _ _ _ (lt-ltb b 128 a) ∙ sym (cond-true _ _ _ (lt-ltb c 65536 (omega arith))))
-    (λ a.
-    let high : 192 ≤ b = ⊎_elim (λ (e : get_or (encode_utf8 c) 0 0 < 128). absurd (omega arith)) (λ (e : 192 ≤ get_or (encode_utf8 c) 0 0). omega arith) d.lead in
-    let after : units_begun b ≡ (if nat_lt b 240 then 1 else 2) = cond-false _ _ _ (le-ltb b 128 a) ∙ cond-false _ _ _ (le-ltb b 192 high) in
-    after ∙
-    ⊎_elim
-    (λ e.
-    let small : c < 65536 = ⊎_elim (λ f. let two = d.two (omega arith) (omega arith) in omega arith) (λ f. let three = d.three (omega arith) (omega arith) in omega arith) (cases_lt b 224) in
-    cond-true _ 1 2 (lt-ltb b 240 e) ∙ sym (cond-true _ _ _ (lt-ltb c 65536 small)))
-    (λ e.
-    let wide = (d.four (omega arith)).0 in
-    let big : 65536 ≤ c = ⊎_elim (λ f. absurd (omega (arith, length-encode c, len_small c f))) (λ f. f) (cases_lt c 65536) in
-    cond-false _ 1 2 (le-ltb b 240 e) ∙ sym (cond-false _ _ _ (le-ltb c 65536 big))) (cases_lt b 240))
-    (cases_lt b 128)
+-- the scalars that are counted are those that begin before the byte
+begun_of : (t : List ℕ) (p units : ℕ) (s : Seen t p units) → Begun t p s.number
+begun_of t p units s = record { inside = s.inside; next = s.next; last = s.last }
 
 -- ---- one byte more
 module _ (t : List ℕ) (ok : all_scalars t ≡ true) where
-  -- where scalar k begins, the byte is its first
-  seen_lead : (k p : ℕ) → k < length t → start len_utf8 t k ≡ p → units_begun (get_or (encode_utf8_all t) p 0) ≡ len_utf16 (get_or t k 0)
-  seen_lead k p h e =
-      let next = start-suc len_utf8 t k h in
-      let inside : p < length (encode_utf8_all t) = omega (arith, len8_some (get_or t k 0), start-le len_utf8 t (suc k), length-utf8 t) in
-      let same : down len_utf8 t p ≡ k = ap (down len_utf8 t) (sym e) ∙ down-start len_utf8 len8_some t k (omega arith) in
-      let at : start len_utf8 t (down len_utf8 t p) ≡ p = ap (start len_utf8 t) same ∙ e in
-      let here = covered t ok p inside in
-      let none : p + 0 ≡ p = omega arith in
-      let first : get_or (encode_utf8_all t) p 0 ≡ get_or (encode_utf8 (get_or t (down len_utf8 t p) 0)) 0 0 =
-      ap (λ n. get_or (encode_utf8_all t) n 0) (sym none) ∙ byte-after t ok p 0 inside at (omega (arith, here.width.0)) in
-      byte-lead (get_or t (down len_utf8 t p) 0) (get_or (encode_utf8_all t) p 0) (decoded _ here.scalar) first ∙ ap (λ j. len_utf16 (get_or t j 0)) same
-
   module _ (p units : ℕ) (s : Seen t p units) where
-    -- below it, it continues one
-    seen_rest : p < length (encode_utf8_all t) → p < start len_utf8 t s.number → units_begun (get_or (encode_utf8_all t) p 0) ≡ 0
-    seen_rest h low =
-        let here = covered t ok p h in
-        let j = down len_utf8 t p in
-        let b = get_or (encode_utf8_all t) p 0 in
-        let k = s.number in
-        -- the scalar that covers p began before it
-        let began : j < k = ⊎_elim (λ l. l) (λ (l : k ≤ j). absurd (omega (arith, start-mono len_utf8 t k j l, here.low))) (cases_lt j k) in
-        let before = s.last j began in
-        let both : (128 ≤ b) × (b < 192) =
-        ⊎_elim (λ a. absurd (omega (arith, lead-boundary t ok p h (inl a)))) (λ a. ⊎_elim (λ d. (a, d)) (λ d. absurd (omega (arith, lead-boundary t ok p h (inr d)))) (cases_lt b 192)) (cases_lt b 128) in
-        byte-rest b both.0 both.1
-
-    -- a scalar begins at p where the text doesn't end there
-    begins : p < length (encode_utf8_all t) → start len_utf8 t s.number ≡ p → s.number < length t
-    begins h at =
-        ⊎_elim (λ l. l) (λ (l : length t ≤ s.number). let f : s.number ≡ length t = omega (arith, s.inside) in absurd (omega (arith, ap (start len_utf8 t) f, length-utf8 t))) (cases_lt s.number (length t))
-
     pub seen_more : p < length (encode_utf8_all t) → Seen t (p + 1) (units + units_begun (get_or (encode_utf8_all t) p 0))
     seen_more h =
-        let k = s.number in
-        let b = get_or (encode_utf8_all t) p 0 in
-        ⊎_elim
-        (λ low.
-        let r = seen_rest h low in
-        record { number = k; inside = s.inside; next = omega arith; last = λ j l. omega (arith, s.last j l); units_are = omega (arith, s.units_are, r); units_in = omega (arith, s.units_in, r) })
-        (λ high.
-        let e : start len_utf8 t k ≡ p = omega (arith, s.next) in
-        let some = begins h e in
-        let r = seen_lead k p some e in
-        let next8 = start-suc len_utf8 t k some in
-        let next16 = start-suc len_utf16 t k some in
+        let step = one_more t ok p s.number (begun_of t p units s) h in
+        let k = s.number + scalars_begun (get_or (encode_utf8_all t) p 0) in
         record {
-          number = suc k;
-          inside = some;
-          next = omega (arith, len8_some (get_or t k 0));
-          last = λ j l. omega (arith, start-mono len_utf8 t j k (omega arith));
-          units_are = omega (arith, s.units_are, r);
-          units_in = omega (arith, s.units_are, r, start-le len_utf16 t (suc k));
-        }) (cases_lt p (start len_utf8 t k))
+          number = k;
+          inside = step.begun.inside;
+          next = step.begun.next;
+          last = step.begun.last;
+          units_are = omega (arith, s.units_are, step.units);
+          units_in = omega (arith, s.units_are, step.units, start-le len_utf16 t k);
+        }
 
     -- the index of each unit of the scalar that begins at p
     pub seen_units : p < length (encode_utf8_all t) → (o : ℕ) → units ≤ o → o < units + units_begun (get_or (encode_utf8_all t) p 0) → index16 t o ≡ index_word8 p (o - units)
     seen_units h o low high =
         let k = s.number in
-        ⊎_elim (λ rest. absurd (omega (arith, seen_rest h rest)))
+        let begun = begun_of t p units s in
+        ⊎_elim (λ rest. absurd (omega (arith, (byte_rest t ok p k begun h rest).units_are)))
         (λ at.
         let e : start len_utf8 t k ≡ p = omega (arith, s.next) in
-        let some = begins h e in
-        let r = seen_lead k p some e in
+        let some = byte_begins t ok p k begun h e in
+        let r = (byte_lead t ok k p some e).units_are in
         let d : down len_utf16 t o ≡ k = down-unique len_utf16 t o k some (omega (arith, s.units_are)) (omega (arith, s.units_are, r, start-suc len_utf16 t k some)) in
         sym (index16-at t o k p (o - units) d e (ap (λ n. o - n) (sym s.units_are))))
         (cases_lt p (start len_utf8 t k))
@@ -185,7 +121,7 @@ seen_bytes e ws n b k reached word same long is here seen (suc j) most inside =
     let step = stepped_in e ws n b k j (reached + units_within j word) word _ same long is before (omega arith) (omega arith) here refl in
     let place : 8 * k + j + 1 ≡ 8 * k + suc j = omega arith in
     let next : j + 1 ≡ suc j = omega arith in
-    let units : reached + units_within j word + units_begun (word / 2 ^ (8 * j) % 256) ≡ reached + units_within (suc j) word = omega (arith, within_more j word, ap (λ m. units_within m word) next) in
+    let units : reached + units_within j word + units_begun (word / 2 ^ (8 * j) % 256) ≡ reached + units_within (suc j) word = omega (arith, within_more units_begun j word, ap (λ m. units_within m word) next) in
     subst (λ p. Seen b p (reached + units_within (suc j) word)) place (subst (Seen b (8 * k + j + 1)) units step.more)
 
 -- where word k begins, or the text ends before it

@@ -11,7 +11,7 @@ use Rattle.text_spec.specs.Packed.{byte_of, bytes_of}
 use Rattle.text_spec.specs.Offsets.{len_utf16}
 use Rattle.text_spec.proofs.Bytes.{decoded}
 use Rattle.text_spec.proofs.Widths.{len16_cases, len8_pair}
-use Rattle.crumbs.proofs.Seeing.{len_small}
+use Rattle.word_units.proofs.Beginning.{len_small}
 use Rattle.crumbs.specs.Fitting.{BeginsScalar}
 
 -- the lead byte tells the width

@@ -4,13 +4,10 @@ ghost use Rattle.text_spec.specs.declared.encoding.Encoding.TheVariants.{Utf8};
 ghost use Rattle.index_words.specs.Crumbs.{size16};
 ghost use Rattle.text_spec.specs.Packed.{content_words};
 ghost use Rattle.text_spec.specs.Views.{size_in};
-ghost use Rattle.crumbs.specs.Counting.{units_begun, units_within};
+ghost use Rattle.word_units.specs.Counting.{units_begun, units_within};
 
 use std::sync::ledger::Ledger;
-use word_units::{Steps, Text};
-
-/// The lowest bit of each byte of a word.
-const LOW_BITS: u64 = 0x0101_0101_0101_0101;
+use word_units::{Steps, Text, units_in};
 
 /// How many UTF-16 units the scalar takes that byte `p` of a word begins.
 pub(crate) fn units_at(word: u64, p: u64) -> u64
@@ -28,20 +25,6 @@ pub(crate) fn units_at(word: u64, p: u64) -> u64
     } else {
         2
     }
-}
-
-/// How many UTF-16 units the scalars take that begin in a word.
-///
-/// A byte whose first two bits are 10 begins none of them, one whose first four bits are ones two, and any other one
-/// (The Unicode Standard, table 3-6). They are counted at all bytes at once, and then added up.
-fn units_in(word: u64) -> u64
-    ensures value { result ≡ units_within 8 word }
-    ensures few { result ≤ 16 }
-{
-    let first = LOW_BITS & (word >> 7);
-    let second = first & (word >> 6);
-    let fourth = second & (word >> 5) & (word >> 4);
-    (LOW_BITS - first + second + fourth) % 255
 }
 
 /// How many bytes of a text that has `count` stand in content word `k`: 1 to 8.
@@ -77,9 +60,14 @@ pub(crate) fn count_units<T: Text, L: Ledger>(t: &mut T, steps: &mut Steps<L>) -
 {
     let count = t.count();
     let mut reached = 0;
-    'words: for k in 0..(count + 7) / 8 {
+    'words: for k in 0..count / 8 {
         let word = t.word(k, steps);
-        reached += units_before(word, count - 8 * k);
+        reached += units_in(word);
     }
-    reached
+    let left = count % 8;
+    if left == 0 {
+        return reached;
+    }
+    let word = t.word(count / 8, steps);
+    reached + units_before(word, left)
 }

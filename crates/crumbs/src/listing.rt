@@ -4,7 +4,8 @@ ghost use Rattle.text_spec.specs.declared.encoding.Encoding.TheVariants.{Utf8};
 ghost use Rattle.index_words.specs.Crumbs.{size16, index_word8, index16, crumbs};
 ghost use Rattle.text_spec.specs.Packed.{content_words};
 ghost use Rattle.text_spec.specs.Views.{size_in};
-ghost use Rattle.crumbs.specs.Counting.{units_within, Seen, crumbs_below};
+ghost use Rattle.word_units.specs.Counting.{units_within};
+ghost use Rattle.crumbs.specs.Counting.{Seen, crumbs_below};
 
 use crate::counting::{bytes_in, count_units, units_at, units_before};
 use crate::crumb::word_of_crumb;

@@ -1,11 +1,11 @@
 use Rattle.std.proofs.Common.{◌≡◌, ap, ◌∙◌, min, arith}
-use Rattle.crumbs.proofs.Spreading.{within_more}
-use Rattle.crumbs.specs.Counting.{units_within}
+use Rattle.word_units.specs.Counting.{units_begun, units_within}
+use Rattle.word_units.proofs.Spreading.{within_more}
 use Rattle.crumbs.proofs.counting.units_before.Goals as goal
 
 pub bytes-preserved : goal.bytes-preserved
 bytes-preserved c =
-    let more = within_more c.bytes.p c.args.word in
+    let more = within_more units_begun c.bytes.p c.args.word in
     record { units = omega (arith, more, c.units_at-units.ensures.value); few = omega (arith, c.units_at-units.ensures.few) }
 
 pub returns-clause-few : goal.returns-clause-few

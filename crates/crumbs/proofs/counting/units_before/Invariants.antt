@@ -1,5 +1,5 @@
 use Rattle.std.proofs.Common.{◌≡◌, ◌*◌, ◌≤◌}
-use Rattle.crumbs.specs.Counting.{units_within}
+use Rattle.word_units.specs.Counting.{units_within}
 use Rattle.crumbs.proofs.counting.units_before.Given as goal
 
 abbrev pub invariant-bytes : goal.invariant-bytes

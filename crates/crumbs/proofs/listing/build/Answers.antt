@@ -1,6 +1,7 @@
 use Rattle.std.proofs.Common.{◌≡◌, refl, sym, ap, subst, ◌∙◌, ℕ, List, ◌+◌, ◌-◌, ◌*◌, ◌/◌, ◌<◌, ◌≤◌, min, [], ◌∷◌, ◌++◌, get_or, arith}
 use Rattle.index_words.specs.Crumbs.{size16, index16}
-use Rattle.crumbs.specs.Counting.{Seen, units_within, crumbs_below}
+use Rattle.word_units.specs.Counting.{units_within}
+use Rattle.crumbs.specs.Counting.{Seen, crumbs_below}
 use Rattle.crumbs.proofs.Crumbing.{size16-le}
 use Rattle.crumbs.proofs.Seeing.{place_of_word, seen_word, seen_none, seen_end, end_units, long8, words_most}
 use Rattle.crumbs.proofs.Growing.{below_all, few_from_last, room_left, grown}

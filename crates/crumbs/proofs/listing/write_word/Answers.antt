@@ -2,7 +2,8 @@ use Rattle.std.proofs.Common.{◌≡◌, ap, subst, ◌∙◌, ◌+◌, ◌*◌,
 use Rattle.slot_table.specs.Owners.{DraftSeen}
 use Rattle.crumbs.specs.Counting.{Seen, crumbs_below}
 use Rattle.crumbs.proofs.Crumbing.{size16-le}
-use Rattle.crumbs.proofs.Spreading.{within_more}
+use Rattle.word_units.specs.Counting.{units_begun}
+use Rattle.word_units.proofs.Spreading.{within_more}
 use Rattle.crumbs.proofs.Seeing.{stepped_in, long8}
 use Rattle.crumbs.proofs.Growing.{few_from_last}
 use Rattle.crumbs.proofs.listing.write_word.Goals as goal
@@ -57,7 +58,7 @@ bytes-preserved g c =
     let place : 8 * c.args.k + l.j + 1 ≡ 8 * c.args.k + (l.j + 1) = omega arith in
     record {
       seen = subst (λ p. Seen t.whole p (l.passed + c.units_at.result)) place step.more;
-      passed = omega (arith, l.invariant.passed, within_more l.j c.args.word, c.units_at.ensures.value);
+      passed = omega (arith, l.invariant.passed, within_more units_begun l.j c.args.word, c.units_at.ensures.value);
       written = λ front is.
           let before = l.invariant.written front is in
           e.written front (ap (λ (x : DraftSeen). x.written) before)

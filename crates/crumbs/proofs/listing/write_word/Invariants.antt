@@ -1,5 +1,6 @@
 use Rattle.std.proofs.Common.{◌≡◌, ℕ, List, ◌+◌, ◌-◌, ◌*◌, ◌<◌, ◌≤◌, ◌++◌, length}
-use Rattle.crumbs.specs.Counting.{Seen, units_within, crumbs_below}
+use Rattle.word_units.specs.Counting.{units_within}
+use Rattle.crumbs.specs.Counting.{Seen, crumbs_below}
 use Rattle.crumbs.proofs.listing.write_word.Given as goal
 
 -- the breadcrumbs of the units before byte j of the word are written
