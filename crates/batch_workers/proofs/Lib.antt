@@ -4,6 +4,7 @@ pub mod Indices
 pub mod Edited
 pub mod Working
 pub mod Written
+pub mod Reading
 pub mod Runs
 pub mod Spreading
 pub mod Shares

@@ -153,3 +153,12 @@ is_at (op.Slice a b) = false
 is_at (op.Edit a b with) = false
 is_at (op.Count view) = false
 is_at op.All = false
+
+-- the op finds places at offsets in UTF-16 code units and leaves the text: one place, or both ends of a part
+abbrev pub finds_places : Op → Bool
+finds_places (op.At offset) = true
+finds_places (op.Place offset) = false
+finds_places (op.Slice a b) = true
+finds_places (op.Edit a b with) = false
+finds_places (op.Count view) = false
+finds_places op.All = false

@@ -1,12 +1,15 @@
 //! Edits: the part of a text between two offsets is replaced by another text.
-ghost use Rattle.std.specs.Prelude.{◌≡◌, ◌≤◌, false, chars, IsUtf8, IsOk, IfOk, OnOk, OnErr};
+ghost use Rattle.std.specs.Prelude.{◌≡◌, ◌≤◌, true, false, chars, IsUtf8, IsOk, IfOk, OnOk, OnErr};
 ghost use Rattle.std.specs.Result.{result_unwrap_or};
 ghost use Rattle.text_spec.specs.Boundaries.{IsScalarBoundary};
 ghost use Rattle.text_spec.specs.Views.{width_in, size_in};
+ghost use Rattle.object_words.specs.Rows.{form_of};
+ghost use Rattle.object_words.specs.declared.form.Form.TheVariants.{Native};
+ghost use Rattle.slot_accounts.specs.Account.{Shows};
 ghost use Rattle.query_lines.specs.Replies.{IsShownOp};
 ghost use Rattle.str_value.specs.Meaning.{storage_of, spliced, OfHeap};
 ghost use Rattle.batch_workers.specs.Ops.{edited, edit_reply, within_limit, counts_of, is_counts, text_bytes};
-ghost use Rattle.batch_workers.specs.Working.{IsWorked, edits_of};
+ghost use Rattle.batch_workers.specs.Working.{IsForSlot, IsSoleIfNative, IsWorked, edits_of};
 
 use crate::place::part_at;
 use crate::questions::out_of_bounds;
@@ -35,6 +38,8 @@ pub(crate) fn edit<'h, L: Ledger>(
     ensures answer { IfOk result (λ reply. reply ≡ edit_reply (edited text.old.text a b (chars with.now))) }
     ensures text { OnOk result (text.new.text ≡ result_unwrap_or (edited text.old.text a b (chars with.now)) text.old.text) }
     ensures unedited { IfOk result (λ reply. is_counts reply ≡ false → text.new ≡ text.old) }
+    ensures sole { IfOk result (λ reply. is_counts reply ≡ true → IsSoleIfNative text.new) }
+    ensures native { IfOk result (λ reply. is_counts reply ≡ true → IsForSlot pass.old text.new.text → Shows pass.old → form_of text.new.row ≡ Native) }
     ensures worked { IfOk result (λ reply. IsWorked pass.old text.old pass.new text.new (edits_of reply)) }
     ensures free { OnErr result (IsOk (edited text.old.text a b (chars with.now))) }
     ensures left { OnErr result ((text.new.text ≡ text.old.text) × IsWorked pass.old text.old pass.new text.new 0) }
@@ -66,6 +71,8 @@ fn edit_between<'h, L: Ledger>(
     ensures answer { IfOk result (λ reply. reply ≡ edit_reply (within_limit (spliced text.old low high (chars with.now)))) }
     ensures text { OnOk result (text.new.text ≡ result_unwrap_or (within_limit (spliced text.old low high (chars with.now))) text.old.text) }
     ensures unedited { IfOk result (λ reply. is_counts reply ≡ false → text.new ≡ text.old) }
+    ensures sole { IfOk result (λ reply. is_counts reply ≡ true → IsSoleIfNative text.new) }
+    ensures native { IfOk result (λ reply. is_counts reply ≡ true → IsForSlot pass.old text.new.text → Shows pass.old → form_of text.new.row ≡ Native) }
     ensures worked { IfOk result (λ reply. IsWorked pass.old text.old pass.new text.new (edits_of reply)) }
     ensures free { OnErr result (IsOk (within_limit (spliced text.old low high (chars with.now)))) }
     ensures left { OnErr result ((text.new.text ≡ text.old.text) × IsWorked pass.old text.old pass.new text.new 0) }

@@ -1,5 +1,5 @@
 //! Places of a text: the scalar boundaries that offsets in either encoding are rounded down to.
-ghost use Rattle.std.specs.Prelude.{◌≡◌, ◌-◌, ◌<◌, ◌≤◌, true, false, IfOk, IfErr, slice_get};
+ghost use Rattle.std.specs.Prelude.{◌≡◌, ◌+◌, ◌-◌, ◌<◌, ◌≤◌, true, false, IfOk, IfErr, slice_get};
 ghost use Rattle.text_spec.specs.Boundaries.{IsScalarBoundary};
 ghost use Rattle.text_spec.specs.Offsets.{start, down, len_utf16};
 ghost use Rattle.text_spec.specs.Views.{width_in, size_in};
@@ -10,6 +10,7 @@ ghost use Rattle.unit_views.specs.Elements.{same_encoding, elements_of};
 ghost use Rattle.str_value.specs.Meaning.{storage_of, own_part};
 ghost use Rattle.batch_workers.specs.Ops.{units, floor, is_out};
 ghost use Rattle.batch_workers.specs.Boundaries.{IsBoundary};
+ghost use Rattle.batch_workers.specs.Working.{IsQuick};
 
 use index_words::Index;
 use rounding::bounds;
@@ -60,6 +61,7 @@ pub(crate) fn boundary_at<L: Ledger>(
     ensures inside { IfOk result (λ b. offset ≤ units unit text.old.text) }
     ensures past { IfErr result (λ length. (length ≡ units unit text.old.text) × (length < offset)) }
     ensures kept { text.new ≡ text.old }
+    ensures cost { unit ≡ Encoding.Utf16 → IsQuick text.old → steps.new ≤ steps.old + 128 }
 {
     let edge = edge_at(text, unit, offset, steps)?;
     Ok(boundary_of(text, unit, edge, steps))
@@ -104,6 +106,7 @@ pub(crate) fn scalar_from<L: Ledger>(
     requires boundary { IsScalarBoundary (width_in (storage_of text.old.row)) text.old.text place }
     ensures value { result ≡ slice_get text.old.text (down (width_in (storage_of text.old.row)) text.old.text place) }
     ensures kept { text.new ≡ text.old }
+    ensures cost { steps.new ≤ steps.old + 2 }
 {
     if place >= text.count() {
         return None;
@@ -124,6 +127,7 @@ fn edge_at<L: Ledger>(
     ensures inside { IfOk result (λ e. offset ≤ units unit text.old.text) }
     ensures past { IfErr result (λ length. (length ≡ units unit text.old.text) × (length < offset)) }
     ensures kept { text.new ≡ text.old }
+    ensures cost { unit ≡ Encoding.Utf16 → IsQuick text.old → steps.new ≤ steps.old + 128 }
 {
     let _count = text.count();
     match index_at(text, unit, offset, steps) {
@@ -142,6 +146,7 @@ fn index_at<L: Ledger>(
     ensures index { IfOk result (IsIndexOf (elements_of (Units unit) (own_part text.old)) offset) }
     ensures refused { IfErr result (IsPastCount (elements_of (Units unit) (own_part text.old)) offset) }
     ensures kept { text.new ≡ text.old }
+    ensures cost { unit ≡ Encoding.Utf16 → IsQuick text.old → steps.new ≤ steps.old + 126 }
 {
     match unit {
         Encoding::Utf8 => calls::index_of_offset(
@@ -161,6 +166,7 @@ fn rounded<L: Ledger>(text: &mut Str, offset: u64, index: Index, steps: &mut Ste
         (down (width_in (storage_of text.old.row)) text.old.text (position_of index)) }
     ensures offset { result.offset ≡ offset - (position_of index - result.place) - transcoded_of index }
     ensures kept { text.new ≡ text.old }
+    ensures cost { steps.new ≤ steps.old + 2 }
 {
     let place = boundary_at_or_before(text, index.position(), steps);
     // one of the two is 0: the storage's units that lie between, and the other encoding's
@@ -249,6 +255,7 @@ fn boundary_of<L: Ledger>(
     requires offset { edge.offset ≡ start (width_in unit) text.old.text (down (width_in (storage_of text.old.row)) text.old.text edge.place) }
     ensures boundary { IsBoundary (storage_of text.old.row) text.old.text (down (width_in (storage_of text.old.row)) text.old.text edge.place) result }
     ensures kept { text.new ≡ text.old }
+    ensures cost { unit ≡ Encoding.Utf16 → storage_of text.old.row ≡ Encoding.Utf8 → steps.new ≡ steps.old }
 {
     match unit {
         Encoding::Utf8 => Boundary {
@@ -270,6 +277,7 @@ fn offset_in<L: Ledger>(text: &mut Str, unit: Encoding, place: u64, steps: &mut 
     requires boundary { IsScalarBoundary (width_in (storage_of text.old.row)) text.old.text place }
     ensures offset { result ≡ start (width_in unit) text.old.text (down (width_in (storage_of text.old.row)) text.old.text place) }
     ensures kept { text.new ≡ text.old }
+    ensures cost { storage_of text.old.row ≡ unit → steps.new ≡ steps.old }
 {
     match text.encoding() {
         Encoding::Utf8 => match unit {

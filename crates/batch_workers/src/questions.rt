@@ -5,6 +5,7 @@ ghost use Rattle.text_spec.specs.Views.{width_in};
 ghost use Rattle.query_lines.specs.Replies.{IsShownOp};
 ghost use Rattle.str_value.specs.Meaning.{storage_of, text_between};
 ghost use Rattle.batch_workers.specs.Ops.{answer_limit, view_of, place_reply, slice_reply, text_reply, count_in, text_bytes, takes_memory};
+ghost use Rattle.batch_workers.specs.Working.{IsQuick};
 
 use crate::place::{boundary_at, part_at, scalar_from};
 use char_view::characters;
@@ -44,6 +45,7 @@ pub(crate) fn place<L: Ledger>(
     ensures shown { IsShownOp result }
     ensures none { text_bytes result ≡ 0 }
     ensures kept { text.new ≡ text.old }
+    ensures cost { unit ≡ Encoding.Utf16 → IsQuick text.old → steps.new ≤ steps.old + 130 }
 {
     let _count = text.count();
     match boundary_at(text, unit, offset, steps) {

@@ -7,9 +7,12 @@ use crate::jobs::{Done, Finished, Job, Task};
 use crate::run::run_ops;
 use outside::Gate;
 use std::alloc::{AllocError, Global};
+use std::marker::Brand;
+use std::sync::ledger::{Blank, Ledger};
 use std::thread;
 use std::thread::Threads;
 use text_spec::OutOfMemory;
+use word_units::Steps;
 
 // Does one job, once the gate lets it pass.
 fn work_on<'h, G: Gate>(
@@ -22,14 +25,39 @@ fn work_on<'h, G: Gate>(
     requires within { spent ≤ answer_limit }
     ensures { IfOk result (λ f. IsWorkedOn spent task.entry f) }
 {
+    gate.pass(task.number);
+    do_ops::<Brand>(alloc, spent, task, Blank::new(1))
+}
+
+// Does the ops of one job, with a counter of its own for the words that they read.
+fn do_ops<'h, L: Ledger>(
+    alloc: Global,
+    spent: u64,
+    task: Task<'h>,
+    blank: Blank,
+) -> Result<Finished<'h>, OutOfMemory>
+    requires name { blank.name ≡ L.name }
+    requires parts { blank.parts ≡ L.parts }
+    requires one { blank.parts ≡ 1 }
+    requires ready { IsReady task }
+    requires within { spent ≤ answer_limit }
+    ensures { IfOk result (λ f. IsWorkedOn spent task.entry f) }
+{
     let Task {
-        number,
+        number: _,
         mut pass,
         job,
     } = task;
     let Job { mut value, ops } = job;
-    gate.pass(number);
-    let replies = run_ops(alloc, &mut value, &mut pass, ops.as_slice(), spent)?;
+    let mut steps = Steps::<L>::from_blank(blank);
+    let replies = run_ops(
+        alloc,
+        &mut value,
+        &mut pass,
+        ops.as_slice(),
+        spent,
+        &mut steps,
+    )?;
     Ok(Finished {
         pass,
         done: Done { value, replies },

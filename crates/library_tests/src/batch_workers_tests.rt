@@ -1,18 +1,22 @@
 //! What no clause says: that ops find memory, and what they answer at texts written out by hand, whichever storage a text has.
 ghost use Rattle.std.specs.Prelude.{◌≡◌, ◌≤◌, All, IfOk};
+ghost use Rattle.query_lines.specs.Replies.{IsShownOp};
 ghost use Rattle.query_lines.specs.WellFormed.{IsWellFormedOp};
 ghost use Rattle.str_value.specs.Meaning.{OfHeap};
 
 use crate::heaps::{SLOTS, heap_of, whole};
 use batch_workers::run_ops;
 use object_words::Form;
-use query_lines::{Command, Ops, Reply, read_line, reply_text};
+use query_lines::{Command, Op, OpReplies, Ops, Reply, read_line, reply_text};
 use std::alloc::Global;
+use std::marker::Brand;
 use std::process::Abort;
+use std::sync::ledger::{Blank, Ledger};
 use std::test::Fail;
 use str_value::{MakeError, Str, StrPass};
+use text_spec::OutOfMemory;
 use value_heaps::{closed, ended};
-use word_units::Text;
+use word_units::{Steps, Text};
 
 /// The ops of the list in a line.
 pub(crate) fn ops_of(alloc: Global, list: &str) -> Result<Ops, Fail>
@@ -29,6 +33,47 @@ pub(crate) fn ops_of(alloc: Global, list: &str) -> Result<Ops, Fail>
     }
 }
 
+/// Ops with a counter of their own for the words that they read.
+fn replies_with<'h, L: Ledger>(
+    alloc: Global,
+    value: &mut Str<'h>,
+    pass: &mut StrPass<'h>,
+    ops: &[Op],
+    spent: u64,
+    blank: Blank,
+) -> Result<OpReplies, OutOfMemory>
+    requires name { blank.name ≡ L.name }
+    requires parts { blank.parts ≡ L.parts }
+    requires one { blank.parts ≡ 1 }
+    requires ops { All IsWellFormedOp ops.now }
+    requires within { spent ≤ 16777216 }
+    requires heap { OfHeap pass.old value.old.place }
+    ensures shown { IfOk result (λ replies. All IsShownOp replies) }
+    ensures one_heap { pass.new.heap ≡ pass.old.heap }
+    ensures heap { OfHeap pass.new value.new.place }
+{
+    let mut steps = Steps::<L>::from_blank(blank);
+    run_ops(alloc, value, pass, ops, spent, &mut steps)
+}
+
+/// The answers to ops.
+pub(crate) fn replies<'h>(
+    alloc: Global,
+    value: &mut Str<'h>,
+    pass: &mut StrPass<'h>,
+    ops: &[Op],
+    spent: u64,
+) -> Result<OpReplies, OutOfMemory>
+    requires ops { All IsWellFormedOp ops.now }
+    requires within { spent ≤ 16777216 }
+    requires heap { OfHeap pass.old value.old.place }
+    ensures shown { IfOk result (λ replies. All IsShownOp replies) }
+    ensures one_heap { pass.new.heap ≡ pass.old.heap }
+    ensures heap { OfHeap pass.new value.new.place }
+{
+    replies_with::<Brand>(alloc, value, pass, ops, spent, Blank::new(1))
+}
+
 /// The text of the answers to ops.
 fn answers<'h>(
     alloc: Global,
@@ -43,7 +88,7 @@ fn answers<'h>(
     ensures heap { OfHeap pass.new value.new.place }
 {
     let ops = ops_of(alloc, list)?;
-    let replies = run_ops(alloc, value, pass, ops.as_slice(), spent)?;
+    let replies = replies(alloc, value, pass, ops.as_slice(), spent)?;
     let text = reply_text(alloc, &Reply::Results(replies))?;
     Ok(text)
 }
@@ -240,8 +285,8 @@ fn texts_and_answers_have_limits(rt: HostRuntime) -> Result<(), Fail> {
     ops_are(&rt, alloc, 4, long, (list, wanted, None), 0)
 }
 
-/// A text of 64 scalars that aren't ASCII and take 128 bytes: a value of it in a slot learns its breadcrumbs at the first `at`, and at no
-/// other question.
+/// A text of 64 scalars that aren't ASCII and take 128 bytes: a value of it in a slot learns its breadcrumbs at the first `at` or `slice`,
+/// and at no other question.
 #[test]
 fn a_place_is_asked_of_breadcrumbs(rt: HostRuntime) -> Result<(), Fail> {
     let alloc = rt.alloc();
@@ -251,7 +296,15 @@ fn a_place_is_asked_of_breadcrumbs(rt: HostRuntime) -> Result<(), Fail> {
         (4, r#"[{"at":65},{"at":0}]"#, Form::Native, true),
         (
             4,
-            r#"[{"place":{"utf8":9}},{"slice":[3,60]},{"text":true}]"#,
+            r#"[{"place":{"utf8":9}},{"count":"utf16"},{"text":true}]"#,
+            Form::Native,
+            false,
+        ),
+        (4, r#"[{"slice":[3,60]}]"#, Form::Native, true),
+        (4, r#"[{"slice":[3,66]}]"#, Form::Native, true),
+        (
+            4,
+            r#"[{"slice":[3,60]},{"edit":[0,0],"with":"é"}]"#,
             Form::Native,
             false,
         ),
@@ -269,6 +322,7 @@ fn a_place_is_asked_of_breadcrumbs(rt: HostRuntime) -> Result<(), Fail> {
         ),
         // no slot is left for the list
         (1, r#"[{"at":63}]"#, Form::Native, false),
+        (1, r#"[{"slice":[3,60]}]"#, Form::Native, false),
         (0, r#"[{"at":63}]"#, Form::Owned, false),
     ];
     for (slots, list, form, known) in rows {

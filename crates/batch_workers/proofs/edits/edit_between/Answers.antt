@@ -1,13 +1,14 @@
 use Rattle.std.proofs.Common.{◌≡◌, sym, ap, subst, ◌∙◌, ⊎_elim, chars}
 use Rattle.std.specs.Result.{result_unwrap_or}
 use Rattle.text_spec.specs.Text.{utf8}
+use Rattle.object_words.specs.Rows.{form_of}
 use Rattle.str_value.specs.Meaning.{Meaning, spliced}
 use Rattle.edit_cow.specs.declared.error.EditError.TheVariants as refusal
 use Rattle.batch_workers.proofs.Edited.{edited-is, refused-for, made-long, made-ok}
 use Rattle.batch_workers.specs.Ops.{edit_reply}
-use Rattle.batch_workers.specs.Working.{IsWorked, edits_of}
+use Rattle.batch_workers.specs.Working.{IsForSlot, IsSoleIfNative, IsWorked, edits_of}
 use Rattle.batch_workers.proofs.Working.{worked-nothing}
-use Rattle.batch_workers.proofs.Written.{too-long-cause, left-kept, left-worked, written-worked}
+use Rattle.batch_workers.proofs.Written.{too-long-cause, left-kept, left-worked, written-worked, written-sole, written-native}
 use Rattle.batch_workers.proofs.edits.edit_between.Goals as goal
 
 -- the edit can be refused for its length alone
@@ -87,6 +88,19 @@ returns-in-Ok-clause-worked g c =
     let done = written-worked c.args.pass.now now (utf8 c.replace.new.s.text) c.replace.new.pass c.replace.new.s c.requires.heap c.in-Ok.ensures.heap c.in-Ok._wrote _ c.in-Ok.ensures.written.2 in
     subst (λ (m : Meaning). IsWorked c.args.pass.now now c.replace.new.pass m (edits_of c.counts.result)) (sym c.counts.ensures.kept)
     (subst (λ reply. IsWorked c.args.pass.now now c.replace.new.pass c.replace.new.s (edits_of reply)) (sym c.counts.ensures.counts) done)
+
+pub returns-in-Ok-clause-sole : goal.returns-in-Ok-clause-sole
+returns-in-Ok-clause-sole g c _ =
+    let is = written-sole c.in-Ok._wrote c.args.pass.now c.args.text.now _ (utf8 c.replace.new.s.text) c.replace.new.pass c.replace.new.s c.in-Ok.ensures.written.2 in
+    subst IsSoleIfNative (sym c.counts.ensures.kept) is
+
+pub returns-in-Ok-clause-native : goal.returns-in-Ok-clause-native
+returns-in-Ok-clause-native g c _ suits shows =
+    let kept = ap (λ (m : Meaning). m.text) c.counts.ensures.kept in
+    let here = subst (IsForSlot c.args.pass.now) kept suits in
+    ap (λ (m : Meaning). form_of m.row) c.counts.ensures.kept
+    ∙ written-native c.in-Ok._wrote c.args.pass.now c.args.text.now _ (utf8 c.replace.new.s.text) c.replace.new.pass c.replace.new.s c.in-Ok.ensures.written.2 here.long
+    (record { fits = here.fits; shows = shows })
 
 -- memory is wanting
 pub returns-in-Err-OutOfMemory-clause-left : goal.returns-in-Err-OutOfMemory-clause-left

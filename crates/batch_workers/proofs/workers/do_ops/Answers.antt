@@ -1,6 +1,7 @@
 use Rattle.std.proofs.Common.{◌≡◌, ◌≢◌, [], true, All, ap, ◌∙◌, sym, subst}
 use Rattle.batch_workers.specs.Ops.{op_replies, text_after_ops, is_at}
-use Rattle.batch_workers.proofs.workers.work_on.Goals as goal
+use Rattle.batch_workers.proofs.Working.{at-finds}
+use Rattle.batch_workers.proofs.workers.do_ops.Goals as goal
 
 pub returns : goal.returns
 returns g c =
@@ -11,11 +12,11 @@ returns g c =
       text = e.text ∙ ap (text_after_ops c.args.task.job.value.text) same;
       unedited = e.unedited;
       shown = e.shown;
-      learned = λ some asked may show. e.learned (subst (λ l. l ≢ []) (sym same) some) (subst (All (λ op. is_at op ≡ true)) (sym same) asked) may show;
-      events = e.published.0;
-      did = e.published.1;
-      published = e.published.2;
-      retained = e.published.3;
+      learned = λ some asked may show. e.learned (subst (λ l. l ≢ []) (sym same) some) (at-finds _ (subst (All (λ op. is_at op ≡ true)) (sym same) asked)) may show;
+      events = e.worked.worked.events;
+      did = e.worked.worked.did;
+      published = e.worked.worked.published;
+      retained = e.worked.worked.retained;
       credits = e.credits;
       heap = e.heap;
     }
