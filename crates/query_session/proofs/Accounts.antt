@@ -7,9 +7,10 @@ use Rattle.slot_table.specs.Owners.{PassSeen}
 use Rattle.slot_accounts.specs.Account.{Did, Keeps, Shows, sum_of}
 use Rattle.slot_accounts.specs.Counts.{publishes, retains}
 use Rattle.slot_accounts.proofs.Doing.{Did-nothing, Did-then}
-use Rattle.str_value.specs.Meaning.{Meaning, Place, own, shared, fixed, OfHeap, is_there, side_of}
+use Rattle.slot_accounts.proofs.Counts.{Made-of}
+use Rattle.str_value.specs.Meaning.{Meaning, Place, own, shared, fixed, OfHeap, credit_of, is_there, side_of}
 use Rattle.str_value.specs.Learning.{MayLearn}
-use Rattle.str_value.specs.Making.{making, letting_go}
+use Rattle.str_value.specs.Making.{IsLiteralOf, making, letting_go}
 use Rattle.str_value.specs.Copying.{copying}
 use Rattle.query_lines.specs.declared.command.Command.{Command}
 use Rattle.query_lines.specs.declared.command.Command.TheVariants as command
@@ -22,6 +23,8 @@ use Rattle.query_lines.specs.declared.op.Op.{Op}
 use Rattle.query_lines.specs.declared.reply.OpReply.{OpReply}
 use Rattle.batch_workers.specs.Ops.{op_replies, text_after_ops, is_counts, is_at}
 use Rattle.batch_workers.specs.Working.{IsRead, edits_of}
+use Rattle.query_session.specs.Session.{Shown}
+use Rattle.query_session.specs.Running.{IsRunning}
 use Rattle.query_session.specs.Values.{Values, IsSound, credits_in, credit_in}
 use Rattle.query_session.specs.Steps.{Done, Stepped, Accounted, Unmoved, CopiedTo, CopiedIn, Makes, Acted, IsLoading}
 use Rattle.query_session.proofs.Sums.{credits_in-remove}
@@ -33,6 +36,13 @@ nothing-published own last found = refl
 nothing-published (shared r) true found = refl
 nothing-published (shared r) false found = refl
 nothing-published (fixed l) last found = refl
+
+-- nor takes a reference
+pub nothing-retained : (o : Place) (last : Bool) (found : Option ℕ) → sum_of retains (letting_go o last found) ≡ 0
+nothing-retained own last found = refl
+nothing-retained (shared r) true found = refl
+nothing-retained (shared r) false found = refl
+nothing-retained (fixed l) last found = refl
 
 -- what holds on Ok, of two facts and of more
 pub on_ok_two : {X E : Type 0} {A B C : Type 0} (r : Result X E) → (A → B → C) → OnOk r A → OnOk r B → OnOk r C
@@ -62,7 +72,7 @@ stepped-refused r x c m p is = subst (λ (y : Reply). Stepped y c m p m p) (sym 
 
 -- a command that did nothing
 pub done-nothing : (c : Command) (m : Values) (p : PassSeen) → IsSound m p → Acted c m p m p [] → Done c m p m p
-done-nothing c m p sound acted = record { events = []; did = Did-nothing p; credits = refl; sound = sound; acted = acted }
+done-nothing c m p sound acted = record { events = []; made = Made-of (Did-nothing p); credits = refl; sound = sound; acted = acted }
 
 pub copied-itself : (to source : List ℕ) (m : Values) (p : PassSeen) → bytes_eq to source ≡ true → IsSound m p → Done (command.Copy to source) m p m p
 copied-itself to source m p same sound =
@@ -75,7 +85,7 @@ pub copied-apart : (to source : List ℕ) (m middle n : Values) (p r q : PassSee
     → Keeps r (credits_in middle + credit_in v) q (credits_in n) → IsSound n q → Done (command.Copy to source) m p n q
 copied-apart to source m middle n p r q v other k stored gone first second sound = record {
   events = copying k.before.place v.place ++ gone.0;
-  did = Did-then k.did gone.2;
+  made = Made-of (Did-then k.did gone.2);
   credits = omega (arith, first, second);
   sound = sound;
   acted = subst (λ b. MatchBool b (Unmoved m p n q (copying k.before.place v.place ++ gone.0)) (CopiedTo m to source p n (copying k.before.place v.place ++ gone.0))) (sym other) (record {
@@ -98,15 +108,24 @@ pub loaded : (name : List ℕ) (what : Content) (m n : Values) (p r q : PassSeen
     → Keeps r (credits_in m + credit_in v) q (credits_in n) → IsSound n q → Done (command.Load name what) m p n q
 loaded name what m n p r q v made did first stored gone second sound = record {
   events = making v.place ++ gone.0;
-  did = Did-then did gone.2;
+  made = Made-of (Did-then did gone.2);
   credits = omega (arith, first, second);
   sound = sound;
   acted = record { value = v; between = r; made = made; now = stored; rest = gone.0; events_are = refl; none = gone.1 };
 }
 
+-- the value of a literal is made without an event, and holds no credit
+pub literal-did : (p q : PassSeen) (k : ℕ) (v : Meaning) → q ≡ p → IsLiteralOf p k v → Did (making v.place) p q
+literal-did p q k v same l =
+    subst (λ (x : PassSeen). Did (making v.place) p x) (sym same) (subst (λ (o : Place). Did (making o) p p) (sym l.place) (Did-nothing p))
+
+pub literal-credits : (p q : PassSeen) (k : ℕ) (v : Meaning) → q ≡ p → IsLiteralOf p k v → Keeps p 0 q (credit_in v)
+literal-credits p q k v same l =
+    subst (λ (x : PassSeen). Keeps p 0 x (credit_in v)) (sym same) (subst (λ (o : Place). p.credits + credit_of o ≡ p.credits + 0) (sym l.place) refl)
+
 -- the account of any command
 of-done : (c : Command) (m : Values) (p : PassSeen) (n : Values) (q : PassSeen) → Done c m p n q → Accounted m p n q
-of-done c m p n q d = record { events = d.events; did = d.did; credits = d.credits; sound = d.sound }
+of-done c m p n q d = record { events = d.events; made = d.made; credits = d.credits; sound = d.sound }
 
 pub accounted : (r : Reply) (c : Command) (m : Values) (p : PassSeen) (n : Values) (q : PassSeen) → IsSound m p → Stepped r c m p n q → Accounted m p n q
 accounted (reply.Counts scalars utf16 utf8) c m p n q sound s = of-done c m p n q s
@@ -117,7 +136,7 @@ accounted (reply.Results replies) c m p n q sound s = of-done c m p n q s
 accounted (reply.Jobs jobs) c m p n q sound s = of-done c m p n q s
 accounted (reply.Refused refused) c m p n q sound s =
     subst (λ (x : Values). Accounted m p x q) (sym s.0) (subst (λ (x : PassSeen). Accounted m p m x) (sym s.1)
-    (record { events = []; did = Did-nothing p; credits = refl; sound = sound }))
+    (record { events = []; made = Made-of (Did-nothing p); credits = refl; sound = sound }))
 
 -- ops that were done on the value of a name
 pub ran-done : (name : List ℕ) (ops : List Op) (m n : Values) (p q : PassSeen) (before after : Meaning) (replies : List OpReply) → IsSound m p
@@ -129,7 +148,7 @@ pub ran-done : (name : List ℕ) (ops : List Op) (m n : Values) (p q : PassSeen)
     → Done (command.On name ops) m p n q
 ran-done name ops m n p q before after replies sound found now text answers unedited worked keeps heap of learned = record {
   events = worked.0;
-  did = worked.1;
+  made = Made-of worked.1;
   credits = let a = changed-credits m n name before after found now in omega (arith, a, keeps);
   sound = changed-sound m n name before after p q sound heap of found now;
   acted = record {
@@ -150,7 +169,7 @@ raw-done : (name bytes : List ℕ) (m : Values) (p : PassSeen) (n : Values) (q :
     → Done (command.Load name (content.Raw bytes)) m p n q
 raw-done name bytes m p n q d = record {
   events = d.events;
-  did = d.did;
+  made = d.made;
   credits = d.credits;
   sound = d.sound;
   acted = record {
@@ -183,7 +202,7 @@ pub dropped : (name : List ℕ) (m n : Values) (p q : PassSeen) (v : Meaning) �
     → (last : Bool) (found : Option ℕ) → Did (letting_go v.place last found) p q → Keeps p (credit_in v) q 0 → q.heap ≡ p.heap → Done (command.Drop name) m p n q
 dropped name m n p q v sound there now last found did keeps heap = record {
   events = letting_go v.place last found;
-  did = did;
+  made = Made-of did;
   credits =
       let a = credits_in-remove m name v there in
       let b : credits_in n ≡ credits_in (finite.remove m name) = ap credits_in now in omega (arith, a, b, keeps);
@@ -202,10 +221,9 @@ loading r a b d name m n p q v w same is stored gone keeps sound =
     subst (λ (x : Meaning). IsLoading r name x m p n q) same (λ what start made did first.
     stepped-counts r a b d (command.Load name what) m start n q is (loaded name what m n start p q w made did first stored gone keeps sound))
 
-pub on-accounted : {E : Type 0} (result : Result Reply E) (c : Command) (m : Values) (p : PassSeen) (n : Values) (q : PassSeen) → IsSound m p
-    → IfOk result (λ r. Stepped r c m p n q) → OnOk result (Accounted m p n q)
-on-accounted (Ok r) c m p n q sound s = accounted r c m p n q sound s
-on-accounted (Err e) c m p n q sound s = tt
-
-pub nothing-accounted : (m : Values) (p : PassSeen) → IsSound m p → Accounted m p m p
-nothing-accounted m p sound = record { events = []; did = Did-nothing p; credits = refl; sound = sound }
+-- the account of a session's step
+pub step-accounted : (s : Shown) (workers : ℕ) (failed : Bool) (m : Values) (p : PassSeen) (r : Reply) (c : Command) (n : Values) (q : PassSeen)
+    → record { values = m; workers = workers; failed = failed; pass = p } ≡ s → IsRunning workers failed m p → s.failed ≡ false → Stepped r c m p n q
+    → Accounted s.values s.pass n q
+step-accounted s workers failed m p r c n q is running whole stepped =
+    subst (λ (x : Shown). Accounted x.values x.pass n q) is (accounted r c m p n q (running.sound (ap (λ (x : Shown). x.failed) is ∙ whole)) stepped)

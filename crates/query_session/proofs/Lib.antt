@@ -8,3 +8,8 @@ pub mod Texts
 pub mod Decoding
 pub mod Copies
 pub mod Ran
+pub mod Keeping
+pub mod KeepingValues
+pub mod Counting
+pub mod Copying
+pub mod Batching

@@ -6,7 +6,7 @@ use Rattle.str_value.specs.Meaning.{Meaning}
 use Rattle.query_session.specs.Values.{Values}
 use Rattle.query_session.proofs.States.{alike, one-name, itself}
 
-same-values : (s t : Values) → ((q : List ℕ) → finite.get s q ≡ finite.get t q) → s ≡ t
+pub same-values : (s t : Values) → ((q : List ℕ) → finite.get s q ≡ finite.get t q) → s ≡ t
 same-values s t h = finite.same_map nat_list_cmp_total (finite.slice_cmp-IsAntisymmetric finite.nat_cmp-IsAntisymmetric) s t h
 
 -- a name's value stored again

@@ -9,7 +9,7 @@ use Rattle.slot_table.specs.Owners.{PassSeen}
 use Rattle.str_value.specs.Meaning.{Meaning, OfHeap}
 use Rattle.str_value.proofs.Crumbing.{of_heap-moves}
 use Rattle.query_session.specs.State.{has_room}
-use Rattle.query_session.specs.Values.{Values, AllOfHeap, IsSound, texts_of, credits_in, credit_in, weight}
+use Rattle.query_session.specs.Values.{Values, AllOfHeap, IsSound, HasEnough, texts_of, credits_in, credit_in, weight}
 use Rattle.query_session.proofs.Sums.{has-texts, len-texts, credits_in-insert}
 use Rattle.slot_accounts.specs.Account.{Keeps}
 
@@ -108,6 +108,10 @@ removed-sound m n k p q s same now = subst (λ (x : Values). IsSound x q) (sym n
 
 pub moved-sound : (m : Values) (p q : PassSeen) → IsSound m p → q.heap ≡ p.heap → IsSound m q
 moved-sound m p q s same = record { heap = all-moves p q m same s.heap; few = s.few }
+
+-- credits that go from a value to the pass or back are still together
+pub kept-enough : (m n : Values) (p q : PassSeen) → HasEnough m p → Keeps p (credits_in m) q (credits_in n) → HasEnough n q
+kept-enough m n p q enough keeps = omega (arith, enough, keeps)
 
 -- no name is in use
 pub empty-sound : (m : Values) (p : PassSeen) → m ≡ finite.empty → IsSound m p

@@ -1,7 +1,15 @@
 pub mod Held
 pub mod State
 pub mod Values
+pub mod Literals
 pub mod Codes
 pub mod Steps
 pub mod Reply
 pub mod Session
+pub mod Keeping
+pub mod Kept
+pub mod Batching
+pub mod Copied
+pub mod Batched
+pub mod Copies
+pub mod Running

@@ -1,5 +1,5 @@
 -- What a command is answered, and what the names stand for afterwards.
-use Rattle.std.specs.Prelude.{◌≡◌, ℕ, List, take, length, chars, if◌then◌else◌, Option, Some, None}
+use Rattle.std.specs.Prelude.{◌≡◌, ℕ, List, [], take, length, chars, get_or, nat_le, if◌then◌else◌, Option, Some, None}
 use Rattle.std.specs.Str.{is_utf8}
 use Rattle.std.specs.Str.Lossy.{utf8_valid_len}
 use Rattle.text_spec.specs.Text.{utf8, utf16, repair}
@@ -12,12 +12,10 @@ use Rattle.query_lines.specs.declared.reply.OpReply.{OpReply}
 use Rattle.query_lines.specs.declared.reply.Refusal.TheVariants as refusal
 use Rattle.query_lines.specs.declared.reply.Reply.{Reply}
 use Rattle.query_lines.specs.declared.reply.Reply.TheVariants as reply
-use Rattle.query_lines.specs.Commands.{is_built}
+use Rattle.query_session.specs.Literals.{default_literals}
 use Rattle.query_session.specs.State.{State, text_of, is_in_use, has_room, store, forget}
 use Rattle.batch_workers.specs.Ops.{op_replies, text_after_ops}
-
-abbrev pub not_built : Reply
-not_built = reply.Refused refusal.NotBuilt
+use Rattle.query_session.specs.Batching.{batch_reply, first_unused}
 
 -- the three counts of a text
 abbrev pub counts_of : List ℕ → Reply
@@ -31,6 +29,11 @@ load_reply state name text = if has_room state name then (counts_of text, store 
 abbrev pub load_bytes_reply : State → List ℕ → List ℕ → Reply × State
 load_bytes_reply state name bytes =
     if is_utf8 bytes then load_reply state name (chars bytes) else (reply.Refused (refusal.NotUtf8 (utf8_valid_len bytes)), state)
+
+-- the same for the literal of a number, where there is one
+abbrev pub load_literal_reply : State → List ℕ → ℕ → Reply × State
+load_literal_reply state name number =
+    if nat_le (length default_literals) number then (reply.Refused refusal.NoLiteral, state) else load_reply state name (chars (get_or default_literals number []))
 
 -- the text of the source, where it is in use, is stored under the other name, unless that would be one name too many
 abbrev pub copy_reply : State → List ℕ → List ℕ → Option (List ℕ) → Reply × State
@@ -57,20 +60,17 @@ abbrev pub results_or_no_name : List ℕ → Option (List OpReply) → Reply
 results_or_no_name name None = reply.Refused (refusal.NoName name)
 results_or_no_name name (Some replies) = reply.Results replies
 
--- the reply to a command that is built; every other one gives `not built`
-abbrev pub built_reply : State → Command → Reply × State
-built_reply state (command.Load name (content.Text bytes)) = load_reply state name (chars bytes)
-built_reply state (command.Load name (content.Units units)) = load_reply state name (repair units)
-built_reply state (command.Load name (content.Raw bytes)) = load_bytes_reply state name bytes
-built_reply state (command.Copy to source) = copy_reply state to source (text_of state source)
-built_reply state (command.Drop name) = drop_reply state name
-built_reply state (command.Compare a b) = (compare_reply a b (text_of state a) (text_of state b), state)
-built_reply state (command.On name ops) = on_reply state name ops (text_of state name)
-built_reply state _ = (not_built, state)
-
--- the reply to any command, and the new state
+-- the reply to a command, and the new state
 abbrev pub reply_to : State → Command → Reply × State
-reply_to state c = if is_built c then built_reply state c else (not_built, state)
+reply_to state (command.Load name (content.Text bytes)) = load_reply state name (chars bytes)
+reply_to state (command.Load name (content.Units units)) = load_reply state name (repair units)
+reply_to state (command.Load name (content.Raw bytes)) = load_bytes_reply state name bytes
+reply_to state (command.Load name (content.Literal number)) = load_literal_reply state name number
+reply_to state (command.Copy to source) = copy_reply state to source (text_of state source)
+reply_to state (command.Drop name) = drop_reply state name
+reply_to state (command.Compare a b) = (compare_reply a b (text_of state a) (text_of state b), state)
+reply_to state (command.On name ops) = on_reply state name ops (text_of state name)
+reply_to state (command.Batch jobs) = batch_reply state jobs (first_unused state jobs)
 
 -- the line is refused whole, and leaves the state
 abbrev pub IsRefused : Reply → Type 0

@@ -5,11 +5,11 @@ use Rattle.std.specs.Str.{bytes_eq}
 use Rattle.std.specs.FinMap as finite
 use Rattle.slot_model.specs.declared.event.Event.{Event}
 use Rattle.slot_table.specs.Owners.{PassSeen}
-use Rattle.slot_accounts.specs.Account.{Did, Keeps, Shows, sum_of}
+use Rattle.slot_accounts.specs.Account.{Did, Made, Keeps, Shows, sum_of}
 use Rattle.slot_accounts.specs.Counts.{publishes, retains}
 use Rattle.str_value.specs.Meaning.{Meaning, is_there, side_of}
 use Rattle.str_value.specs.Learning.{MayLearn}
-use Rattle.str_value.specs.Making.{MadeOfUtf8, MadeOfUtf16, making}
+use Rattle.str_value.specs.Making.{MadeOfUtf8, MadeOfUtf16, IsLiteralOf, making}
 use Rattle.str_value.specs.Copying.{CopiedAt, copying}
 use Rattle.query_lines.specs.declared.command.Command.{Command}
 use Rattle.query_lines.specs.declared.command.Command.TheVariants as command
@@ -21,6 +21,8 @@ use Rattle.query_lines.specs.declared.reply.Reply.TheVariants as reply
 use Rattle.batch_workers.specs.Ops.{op_replies, text_after_ops, is_counts, is_at}
 use Rattle.batch_workers.specs.Working.{IsRead, edits_of}
 use Rattle.query_session.specs.Values.{Values, IsSound, credits_in, credit_in}
+pub use Rattle.query_session.specs.Copied.{CopiedIn}
+use Rattle.query_session.specs.Batched.{Batched}
 
 -- a value was made, which stands under the name then, and the one that the name had was given up
 pub record Loaded (Made : PassSeen → Meaning → Type 0) (m : Values) (name : List ℕ) (n : Values) (es : List Event) : Type 0 where
@@ -32,12 +34,12 @@ pub record Loaded (Made : PassSeen → Meaning → Type 0) (m : Values) (name : 
   pub events_are : es ≡ making value.place ++ rest
   pub none : sum_of publishes rest ≡ 0
 
--- the value of a content: of UTF-8, and of UTF-16 units
+-- the value of a content: of UTF-8, of UTF-16 units, and of a literal
 abbrev pub Makes : Content → PassSeen → PassSeen → Meaning → Type 0
 Makes (content.Text bytes) p q value = MadeOfUtf8 p q bytes value.place value.row
 Makes (content.Raw bytes) p q value = MadeOfUtf8 p q bytes value.place value.row
 Makes (content.Units units) p q value = MadeOfUtf16 p q units value.place value.row
-Makes (content.Literal number) p q value = ⊥
+Makes (content.Literal number) p q value = (q ≡ p) × IsLiteralOf p number value
 
 -- A copy of the source's value was taken, which stands under the other name then, and the one that it had was given up. The source's
 -- value may know less of its slot after that
@@ -86,12 +88,12 @@ Acted (command.Copy to source) m p n q es = MatchBool (bytes_eq to source) (Unmo
 Acted (command.Drop name) m p n q es = Dropped m name n es
 Acted (command.Compare a b) m p n q es = Unmoved m p n q es
 Acted (command.On name ops) m p n q es = RanOn m name ops p n es
-Acted (command.Batch jobs) m p n q es = ⊥
+Acted (command.Batch jobs) m p n q es = Batched m p jobs n es
 
--- and its account: its events, the credits, and that values and pass go on together
+-- and its account: its events, which threads may have made beside each other, the credits, and that values and pass go on together
 pub record Done (c : Command) (m : Values) (p : PassSeen) (n : Values) (q : PassSeen) : Type 0 where
   pub events : List Event
-  pub did : Did events p q
+  pub made : Made events p q
   pub credits : Keeps p (credits_in m) q (credits_in n)
   pub sound : IsSound n q
   pub acted : Acted c m p n q events
@@ -109,20 +111,9 @@ Stepped (reply.Refused refused) c m p n q = (n ≡ m) × (q ≡ p)
 -- the account alone
 pub record Accounted (m : Values) (p : PassSeen) (n : Values) (q : PassSeen) : Type 0 where
   pub events : List Event
-  pub did : Did events p q
+  pub made : Made events p q
   pub credits : Keeps p (credits_in m) q (credits_in n)
   pub sound : IsSound n q
-
--- of the value of a name a copy was taken
-pub record CopiedIn (m : Values) (name : List ℕ) (p : PassSeen) (n : Values) (q : PassSeen) (value : Meaning) : Type 0 where
-  pub before : Meaning
-  pub after : Meaning
-  pub found : finite.get m name ≡ Some before
-  pub now : n ≡ finite.insert m name after
-  pub copied : CopiedAt before.place p before q after value
-  pub did : Did (copying before.place value.place) p q
-  pub text : value.text ≡ before.text
-  pub same : after.text ≡ before.text
 
 -- a value was stored that the pass `start` made of some content, whatever that was
 abbrev pub IsLoading : Reply → List ℕ → Meaning → Values → PassSeen → Values → PassSeen → Type 0

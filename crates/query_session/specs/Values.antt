@@ -1,5 +1,5 @@
 -- The values that names stand for, the texts that these show, and what holds of them and a pass between two commands.
-use Rattle.std.specs.Prelude.{ℕ, ◌≤◌, List, map, Option, Some, None}
+use Rattle.std.specs.Prelude.{ℕ, ◌+◌, ◌*◌, ◌≤◌, List, map, Option, Some, None}
 use Rattle.std.specs.Option.{IfSome}
 use Rattle.std.specs.Ordering.{nat_cmp}
 use Rattle.std.specs.Cmp.Lexicographic.{slice_cmp}
@@ -40,3 +40,16 @@ AllOfHeap p m = (name : List ℕ) → IfSome (finite.get m name) (λ (s : Meanin
 pub record IsSound (m : Values) (p : PassSeen) : Type 0 where
   pub heap : AllOfHeap p m
   pub few : finite.len m ≤ name_limit
+
+-- how many jobs a batch has at most
+abbrev pub job_limit : ℕ
+job_limit = 64
+
+-- The credits that a session needs: one for each value, for each job one for its copy and one as the stake of its share, and one as the
+-- stake of the pass
+abbrev pub credits_needed : ℕ
+credits_needed = name_limit + 2 * job_limit + 1
+
+-- the pass and the values have them together, so there are enough for any batch
+abbrev pub HasEnough : Values → PassSeen → Type 0
+HasEnough m p = credits_needed ≤ p.credits + credits_in m

@@ -6,6 +6,9 @@
 //! Meaning: `specs/State.antt`, `specs/Reply.antt`, and of ops `specs/Ops.antt` of batch_workers. Start at `session.rt`.
 #![tactic(auto)]
 
+mod batch;
+mod kept;
+mod literals;
 mod loads;
 mod named;
 mod names;
@@ -13,4 +16,5 @@ mod session;
 mod stored;
 mod words;
 
+pub use literals::default_literals;
 pub use session::Session;

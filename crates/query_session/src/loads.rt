@@ -1,10 +1,10 @@
 //! The command `load`: a text is stored under a name.
-ghost use Rattle.std.specs.Prelude.{◌≡◌, ◌≤◌, true, length, chars, string_bytes, IfOk, OnErr, IsTrue};
+ghost use Rattle.std.specs.Prelude.{◌≡◌, ◌≤◌, length, chars, string_bytes, IfOk, OnErr, IsTrue};
 ghost use Rattle.text_spec.specs.Text.{utf8, repair};
-ghost use Rattle.query_lines.specs.Commands.{is_built_content};
 ghost use Rattle.query_lines.specs.WellFormed.{IsWellFormedContent, IsName, IsShortText, text_limit};
 ghost use Rattle.query_lines.specs.Replies.{IsShown};
-ghost use Rattle.query_session.specs.Reply.{IsRefused, reply_to, load_reply, load_bytes_reply, counts_of};
+ghost use Rattle.query_session.specs.Literals.{default_literals};
+ghost use Rattle.query_session.specs.Reply.{IsRefused, reply_to, load_reply, load_bytes_reply, load_literal_reply, counts_of};
 ghost use Rattle.str_value.specs.Meaning.{OfHeap};
 ghost use Rattle.query_session.specs.State.{has_room};
 ghost use Rattle.query_session.specs.Steps.{Stepped, IsLoading};
@@ -27,7 +27,7 @@ pub(crate) fn load<'h>(
 ) -> Result<Reply, OutOfMemory>
     requires name { IsName name }
     requires what { IsWellFormedContent what }
-    requires built { is_built_content what ≡ true }
+    requires literals { pass.old.heap.literals ≡ default_literals }
     requires sound { IsSound names.old pass.old }
     ensures reply { IfOk result (λ r. (r, texts_of names.new) ≡ reply_to (texts_of names.old) (Command.Load name what)) }
     ensures refused_is_free { OnErr result (¬ (IsRefused (reply_to (texts_of names.old) (Command.Load name what)).0)) }
@@ -40,7 +40,7 @@ pub(crate) fn load<'h>(
         Content::Text(text) => load_text(pass, names, name, text),
         Content::Units(units) => load_units(pass, names, name, units),
         Content::Raw(bytes) => load_bytes(pass, names, name, bytes),
-        Content::Literal(_) => unreachable!(),
+        Content::Literal(number) => load_literal(pass, names, name, number),
     }
 }
 
@@ -117,6 +117,33 @@ fn load_bytes<'h>(
         }));
     }
     load_text(pass, names, name, bytes)
+}
+
+// The same for a literal of the heap. Memory is taken for the name alone.
+fn load_literal<'h>(
+    pass: &mut StrPass<'h>,
+    names: &mut Names<'h>,
+    name: Bytes,
+    number: u64,
+) -> Result<Reply, OutOfMemory>
+    requires name { IsName name }
+    requires literals { pass.old.heap.literals ≡ default_literals }
+    requires sound { IsSound names.old pass.old }
+    ensures reply { IfOk result (λ r. (r, texts_of names.new) ≡ load_literal_reply (texts_of names.old) name number) }
+    ensures refused_is_free { OnErr result (¬ (IsRefused (load_literal_reply (texts_of names.old) name number).0)) }
+    ensures shown { IfOk result IsShown }
+    ensures kept { OnErr result (texts_of names.new ≡ texts_of names.old) }
+    ensures stepped { IfOk result (λ r. Stepped r (Command.Load name (Content.Literal number)) names.old pass.old names.new pass.new) }
+    ensures one_heap { pass.new.heap ≡ pass.old.heap }
+{
+    let Some(value) = Str::literal(pass, number) else {
+        return Ok(Reply::Refused(Refusal::NoLiteral));
+    };
+    let name = string_of(name);
+    if !has_room(names, name.as_str()) {
+        return Ok(Reply::Refused(Refusal::TooManyNames));
+    }
+    store_loaded(pass, names, name, value)
 }
 
 // Stores a value that was just made. It is counted first, while it is at hand.

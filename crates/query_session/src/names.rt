@@ -138,7 +138,7 @@ impl<'h> Names<'h> {
     }
 
     // Exchanges the value of a name with another one. No memory.
-    fn exchange(&mut self, name: &str, value: &mut Str<'h>)
+    pub(crate) fn exchange(&mut self, name: &str, value: &mut Str<'h>)
         requires { IsTrue (is_in_use (texts_of self.old) name.now) }
         ensures stored { self.new ≡ finite.insert self.old name.now value.old }
         ensures taken { finite.get self.old name.now ≡ Some value.new }
@@ -179,12 +179,13 @@ impl<'h> Names<'h> {
 
     // Does ops on the value of a name and gives their answers, or nothing where the name isn't in use. Where memory is wanting, some first
     // ops are done.
-    pub(crate) fn run(
+    pub(crate) fn run<L: Ledger>(
         &mut self,
         pass: &mut StrPass<'h>,
         alloc: Global,
         name: &str,
         ops: &[Op],
+        steps: &mut Steps<L>,
     ) -> Result<Option<OpReplies>, OutOfMemory>
         requires ops { All IsWellFormedOp ops.now }
         requires sound { IsSound self.old pass.old }
@@ -200,7 +201,7 @@ impl<'h> Names<'h> {
         let Some(value) = self.values.get_mut(name) else {
             return Ok(None);
         };
-        let replies = run_ops(alloc, value, pass, ops, 0)?;
+        let replies = run_ops(alloc, value, pass, ops, 0, steps)?;
         Ok(Some(replies))
     }
 

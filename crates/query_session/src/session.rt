@@ -3,25 +3,29 @@ ghost use Rattle.std.specs.Prelude.{◌≡◌, ◌≤◌, List, true, false, is_
 ghost use Rattle.std.specs.FinMap as finite;
 ghost use Rattle.slot_model.specs.declared.event.Event.{Event};
 ghost use Rattle.slot_accounts.specs.Account.{Did, Keeps};
-ghost use Rattle.query_lines.specs.Commands.{is_built};
 ghost use Rattle.query_lines.specs.WellFormed.{IsWellFormed, IsWellFormedOp, IsName};
 ghost use Rattle.query_lines.specs.Replies.{IsShown};
+ghost use Rattle.query_session.specs.Literals.{default_literals};
 ghost use Rattle.query_session.specs.Reply.{IsFree, IsLeft, IsRefused, reply_to, on_reply};
 ghost use Rattle.query_session.specs.State as state;
 ghost use Rattle.query_session.specs.Steps.{Stepped, Accounted};
-ghost use Rattle.query_session.specs.Values.{IsSound, texts_of, credits_in};
+ghost use Rattle.query_session.specs.Values.{HasEnough, IsSound, texts_of, credits_in, credits_needed};
+ghost use Rattle.query_session.specs.Running.{worker_limit};
 
+use crate::batch::batch;
 use crate::loads::load;
 use crate::named::{compare, copy, drop_name};
 use crate::names::Names;
 use crate::words::{no_name, string_of};
 use outside::Gate;
-use query_lines::{Bytes, Command, Ops, Refusal, Reply, is_built};
+use query_lines::{Bytes, Command, Ops, Reply};
 use std::alloc::Global;
-use std::marker::Model;
+use std::marker::{Brand, Model};
+use std::sync::ledger::{Blank, Ledger};
 use std::thread::Threads;
 use str_value::StrPass;
 use text_spec::OutOfMemory;
+use word_units::Steps;
 
 /// Names and their values, which stand in a heap, and a pass of that heap.
 #[derive(Drop)]
@@ -33,25 +37,28 @@ pub struct Session<'h> {
 }
 
 impl<'h> Model for Session<'h> {
-    ghost use Rattle.std.specs.Prelude.{◌≡◌, false};
     ghost use Rattle.query_session.specs.Session.{Shown, shown_code};
 
     ghost Value = { Shown };
 
     ghost coded = { shown_code };
 
-    ghost use Rattle.query_session.specs.Values.{IsSound};
+    ghost use Rattle.query_session.specs.Running.{IsRunning};
 
     ghost view = { λ s. record { values = s.names; workers = s.workers; failed = s.failed; pass = s.pass } };
 
-    ghost invariant = { λ s. s.failed ≡ false → IsSound s.names s.pass };
+    ghost invariant = { λ s. IsRunning s.workers s.failed s.names s.pass };
 }
 
 impl<'h> Session<'h> {
-    /// A session in which no name is in use, over the values that the pass can make. `workers` do the jobs of a batch, 1 to 8.
+    /// A session in which no name is in use, over the values that the pass can make. `workers` do the jobs of a batch, 1 to 8. The pass
+    /// shows at least 385 credits: so many let each of 256 names and of 64 jobs hold a value of its own, and each share have its stake. Its
+    /// heap has the literals that a load may name.
     pub fn new(alloc: Global, pass: StrPass<'h>, workers: u32) -> Result<Session<'h>, OutOfMemory>
         requires some { 1 ≤ workers }
-        requires few { workers ≤ 8 }
+        requires few { workers ≤ worker_limit }
+        requires credits { credits_needed ≤ pass.credits }
+        requires literals { pass.heap.literals ≡ default_literals }
         ensures values { IfOk result (λ s. s.values ≡ finite.empty) }
         ensures workers { IfOk result (λ s. s.workers ≡ workers) }
         ensures failed { IfOk result (λ s. s.failed ≡ false) }
@@ -73,9 +80,9 @@ impl<'h> Session<'h> {
     pub fn step<R: Threads + Sync, G: Gate>(
         &mut self,
         alloc: Global,
-        _rt: &R,
+        rt: &R,
         command: Command,
-        _gate: &G,
+        gate: &G,
     ) -> Result<Reply, OutOfMemory>
         requires well_formed { IsWellFormed command }
         requires whole { self.old.failed ≡ false }
@@ -92,7 +99,15 @@ impl<'h> Session<'h> {
         ensures accounted { OnOk result (Accounted self.old.values self.old.pass self.new.values self.new.pass) }
         ensures one_heap { self.new.pass.heap ≡ self.old.pass.heap }
     {
-        match reply_to(&mut self.pass, &mut self.names, alloc, command) {
+        match reply_to(
+            rt,
+            alloc,
+            &mut self.pass,
+            &mut self.names,
+            command,
+            self.workers,
+            gate,
+        ) {
             Ok(reply) => Ok(reply),
             Err(refused) => {
                 self.failed = true;
@@ -125,38 +140,21 @@ impl<'h> Session<'h> {
     }
 }
 
-// The reply to a command. One that isn't built yet is refused.
-fn reply_to<'h>(
+// The reply to a command.
+fn reply_to<'h, R: Threads + Sync, G: Gate>(
+    rt: &R,
+    alloc: Global,
     pass: &mut StrPass<'h>,
     names: &mut Names<'h>,
-    alloc: Global,
     command: Command,
+    workers: u32,
+    gate: &G,
 ) -> Result<Reply, OutOfMemory>
+    requires some { 1 ≤ workers }
+    requires few { workers ≤ worker_limit }
     requires well_formed { IsWellFormed command }
-    requires sound { IsSound names.old pass.old }
-    ensures reply { IfOk result (λ r. (r, texts_of names.new) ≡ reply_to (texts_of names.old) command) }
-    ensures free { IsFree command → IsOk result }
-    ensures refused_is_free { OnErr result (¬ (IsRefused (reply_to (texts_of names.old) command).0)) }
-    ensures shown { IfOk result IsShown }
-    ensures left { OnErr result (IsLeft (texts_of names.old) command (texts_of names.new)) }
-    ensures stepped { IfOk result (λ r. Stepped r command names.old pass.old names.new pass.new) }
-    ensures accounted { OnOk result (Accounted names.old pass.old names.new pass.new) }
-    ensures one_heap { pass.new.heap ≡ pass.old.heap }
-{
-    if is_built(&command) {
-        return built_reply(pass, names, alloc, command);
-    }
-    Ok(Reply::Refused(Refusal::NotBuilt))
-}
-
-fn built_reply<'h>(
-    pass: &mut StrPass<'h>,
-    names: &mut Names<'h>,
-    alloc: Global,
-    command: Command,
-) -> Result<Reply, OutOfMemory>
-    requires well_formed { IsWellFormed command }
-    requires built { is_built command ≡ true }
+    requires enough { HasEnough names.old pass.old }
+    requires literals { pass.old.heap.literals ≡ default_literals }
     requires sound { IsSound names.old pass.old }
     ensures reply { IfOk result (λ r. (r, texts_of names.new) ≡ reply_to (texts_of names.old) command) }
     ensures free { IsFree command → IsOk result }
@@ -172,7 +170,7 @@ fn built_reply<'h>(
         Command::Copy { to, source } => copy(pass, names, alloc, to, source),
         Command::Drop { name } => Ok(drop_name(pass, names, name)),
         Command::Compare { a, b } => compare(pass, names, alloc, a, b),
-        Command::Batch { .. } => unreachable!(),
+        Command::Batch { jobs } => batch(rt, alloc, pass, names, jobs, workers, gate),
     }
 }
 
@@ -194,8 +192,34 @@ fn on<'h>(
     ensures stepped { IfOk result (λ r. Stepped r (Command.On name ops) names.old pass.old names.new pass.new) }
     ensures one_heap { pass.new.heap ≡ pass.old.heap }
 {
+    on_counted::<Brand>(pass, names, alloc, name, ops, Blank::new(1))
+}
+
+// The same, with a counter of the words that the ops read.
+fn on_counted<'h, L: Ledger>(
+    pass: &mut StrPass<'h>,
+    names: &mut Names<'h>,
+    alloc: Global,
+    name: Bytes,
+    ops: Ops,
+    blank: Blank,
+) -> Result<Reply, OutOfMemory>
+    requires ledger { blank.name ≡ L.name }
+    requires parts { blank.parts ≡ L.parts }
+    requires one { blank.parts ≡ 1 }
+    requires name { IsName name }
+    requires ops { All IsWellFormedOp ops }
+    requires sound { IsSound names.old pass.old }
+    ensures reply { IfOk result (λ r. (r, texts_of names.new) ≡ on_reply (texts_of names.old) name ops (state.text_of (texts_of names.old) name)) }
+    ensures refused_is_free { OnErr result (¬ (IsRefused (on_reply (texts_of names.old) name ops (state.text_of (texts_of names.old) name)).0)) }
+    ensures shown { IfOk result IsShown }
+    ensures left { OnErr result (IsLeft (texts_of names.old) (Command.On name ops) (texts_of names.new)) }
+    ensures stepped { IfOk result (λ r. Stepped r (Command.On name ops) names.old pass.old names.new pass.new) }
+    ensures one_heap { pass.new.heap ≡ pass.old.heap }
+{
+    let mut steps = Steps::<L>::from_blank(blank);
     let name = string_of(name);
-    match names.run(pass, alloc, name.as_str(), ops.as_slice())? {
+    match names.run(pass, alloc, name.as_str(), ops.as_slice(), &mut steps)? {
         Some(replies) => Ok(Reply::Results(replies)),
         None => Ok(no_name(name)),
     }

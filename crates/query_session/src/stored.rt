@@ -3,7 +3,7 @@ ghost use Rattle.std.specs.Prelude.{◌≡◌, ◌+◌, List, OnOk, OnErr, IfSom
 ghost use Rattle.std.specs.FinMap as finite;
 ghost use Rattle.slot_model.specs.declared.event.Event.{Event};
 ghost use Rattle.slot_accounts.specs.Account.{Did, Keeps, sum_of};
-ghost use Rattle.slot_accounts.specs.Counts.{publishes};
+ghost use Rattle.slot_accounts.specs.Counts.{publishes, retains};
 ghost use Rattle.str_value.specs.Meaning.{OfHeap};
 ghost use Rattle.query_session.specs.State.{has_room};
 ghost use Rattle.query_session.specs.Values.{IsSound, texts_of, credits_in, credit_in, weight};
@@ -35,9 +35,9 @@ pub(crate) fn store_value<'h>(
 }
 
 // Gives up the value that a name had, if it had one.
-fn release_old<'h>(pass: &mut StrPass<'h>, old: Option<Str<'h>>)
+pub(crate) fn release_old<'h>(pass: &mut StrPass<'h>, old: Option<Str<'h>>)
     requires { IfSome old (λ v. OfHeap pass.old v.place) }
-    ensures did { (es : List Event) × (sum_of publishes es ≡ 0) × Did es pass.old pass.new }
+    ensures did { (es : List Event) × (sum_of publishes es ≡ 0) × (sum_of retains es ≡ 0) × Did es pass.old pass.new }
     ensures credits { Keeps pass.old (weight old.entry) pass.new 0 }
 {
     let Some(value) = old else {
