@@ -1,5 +1,5 @@
 -- The command of a line: the row that its JSON object meets, with exactly the keys of the row.
-use Rattle.std.specs.Prelude.{ℕ, ◌==◌, ◌&&◌, List, [], ◌∷◌, length, nat_le, if◌then◌else◌, codes, Bool, true, false, Option, Some, None, option_and_then, option_map, Result, Ok, Err}
+use Rattle.std.specs.Prelude.{ℕ, ◌==◌, ◌&&◌, List, [], ◌∷◌, length, nat_le, if◌then◌else◌, codes, Option, Some, None, option_and_then, option_map}
 use Rattle.serde_json.specs.Data.{Data, Members}
 use Rattle.serde_json.specs.Find.{as_str, as_object}
 use Rattle.query_lines.specs.Objects.{value_of_line, key_count, has_key, name_in, number_in, number_below, both, list_in, pair_in, under}
@@ -9,8 +9,6 @@ use Rattle.query_lines.specs.declared.command.Command.TheVariants as command
 use Rattle.query_lines.specs.declared.command.Content.{Content}
 use Rattle.query_lines.specs.declared.command.Content.TheVariants as content
 use Rattle.query_lines.specs.declared.command.JobLine.{JobLine}
-use Rattle.query_lines.specs.declared.command.LineError.{LineError}
-use Rattle.query_lines.specs.declared.command.LineError.TheVariants as fault
 use Rattle.query_lines.specs.declared.op.Op.{Op}
 use Rattle.query_lines.specs.declared.op.Op.TheVariants as op
 
@@ -75,34 +73,6 @@ command_in value = option_and_then (λ members.
     else if key_count members == 2 then two_key_command members
     else None) (as_object value)
 
--- which contents of a load are built
-abbrev pub is_built_content : Content → Bool
-is_built_content (content.Text text) = true
-is_built_content (content.Units units) = true
-is_built_content (content.Raw bytes) = true
-is_built_content (content.Literal number) = false
-
--- which commands are built
-abbrev pub is_built : Command → Bool
-is_built (command.Load name what) = is_built_content what
-is_built (command.Copy to source) = true
-is_built (command.Drop name) = true
-is_built (command.Compare a b) = true
-is_built (command.On name ops) = true
-is_built (command.Batch jobs) = false
-
--- the command itself, where it is built
-abbrev pub if_built : Command → Result Command LineError
-if_built c = if is_built c then Ok c else Err fault.NotBuilt
-
-abbrev pub or_syntax : Option Command → Result Command LineError
-or_syntax None = Err fault.Syntax
-or_syntax (Some c) = if_built c
-
--- the command of a line's row
-abbrev pub row_of : List ℕ → Option Command
-row_of line = option_and_then command_in (value_of_line line)
-
--- the command of a line
-abbrev pub command_of : List ℕ → Result Command LineError
-command_of line = or_syntax (row_of line)
+-- the command of a line, where it is of a row
+abbrev pub command_of : List ℕ → Option Command
+command_of line = option_and_then command_in (value_of_line line)

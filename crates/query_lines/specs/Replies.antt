@@ -57,7 +57,6 @@ order_text Greater = codes "{\"order\":\"greater\"}"
 -- the text of the refusal of a line
 abbrev pub refusal_text : Refusal → List ℕ
 refusal_text refusal.Syntax = codes "{\"error\":\"syntax\"}"
-refusal_text refusal.NotBuilt = codes "{\"error\":\"not built\"}"
 refusal_text (refusal.NoName name) = codes "{\"error\":\"no name\",\"name\":" ++ (quoted name ++ codes "}")
 refusal_text refusal.NoLiteral = codes "{\"error\":\"no literal\"}"
 refusal_text (refusal.NotUtf8 valid) = codes "{\"error\":\"not utf-8\",\"valid\":" ++ (decimal valid ++ codes "}")
@@ -91,7 +90,6 @@ IsShownOp answer.TooLong = Unit {0}
 
 abbrev pub IsShownRefusal : Refusal → Type 0
 IsShownRefusal refusal.Syntax = Unit {0}
-IsShownRefusal refusal.NotBuilt = Unit {0}
 IsShownRefusal (refusal.NoName name) = IsUtf8 name
 IsShownRefusal refusal.NoLiteral = Unit {0}
 IsShownRefusal (refusal.NotUtf8 valid) = Unit {0}

@@ -48,8 +48,6 @@ pub struct JobLine {
 pub enum LineError {
     /// It is no JSON object of one of the rows of commands.
     Syntax,
-    /// It is of a row, and its command or one of its ops isn't built yet.
-    NotBuilt,
     /// Memory is wanting.
     OutOfMemory,
 }

@@ -1,7 +1,6 @@
 //! A line of input read as a command, and a reply written as text.
 #![tactic(auto)]
 
-mod built;
 mod command;
 mod commands_read;
 mod fault;
@@ -15,7 +14,6 @@ mod reply;
 mod values;
 mod write;
 
-pub use built::is_built;
 pub use command::{Command, Content, JobLine, LineError};
 pub use listed::{Bytes, JobLines, JobReplies, Listed, OpReplies, Ops, Units};
 pub use op::{Op, View};

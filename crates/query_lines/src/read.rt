@@ -2,12 +2,11 @@
 
 ghost use Rattle.std.specs.Prelude.{◌≡◌, ◌≤◌, Err, IfOk, None, Ok, Some, length};
 ghost use Rattle.serde_json.specs.View.{view};
-ghost use Rattle.query_lines.specs.Commands.{command_of, row_of};
+ghost use Rattle.query_lines.specs.Commands.{command_of};
 ghost use Rattle.query_lines.specs.Objects.{value_of_line};
 ghost use Rattle.query_lines.specs.Weights.{weight};
 ghost use Rattle.query_lines.specs.WellFormed.{IsWellFormed, line_limit};
 
-use crate::built::is_built;
 use crate::fault::Fault;
 use crate::{Command, LineError, commands_read};
 use serde_json::Value;
@@ -31,8 +30,8 @@ fn value_of(alloc: Global, line: &[u8]) -> Result<Value, Fault>
 }
 
 fn read_command(alloc: Global, line: &[u8]) -> Result<Command, Fault>
-    ensures ok { IfOk result (λ c. row_of line.now ≡ Some c) }
-    ensures shape { result ≡ Err Fault.Shape → row_of line.now ≡ None }
+    ensures ok { IfOk result (λ c. command_of line.now ≡ Some c) }
+    ensures shape { result ≡ Err Fault.Shape → command_of line.now ≡ None }
     ensures well_formed { IfOk result (λ c. length line.now ≤ line_limit → IsWellFormed c) }
 {
     commands_read::command_of(alloc, value_of(alloc, line)?)
@@ -42,26 +41,19 @@ fn read_command(alloc: Global, line: &[u8]) -> Result<Command, Fault>
 ///
 /// A line is one JSON object in UTF-8, read as `serde_json` reads it: of a key that stands twice the last value counts. The object
 /// has exactly the keys of a row of commands, and a number is a whole one below 2^64.
-/// `Syntax` where the line is of no row; then `NotBuilt` where its command isn't built yet. `OutOfMemory` where memory is wanting.
+/// `Syntax` where the line is of no row. `OutOfMemory` where memory is wanting.
 /// The strings of texts are moved out of the parsed value, not copied. Time is linear in the line's length.
 pub fn read_line(alloc: Global, line: &[u8]) -> Result<Command, LineError>
-    ensures ok { IfOk result (λ c. command_of line.now ≡ Ok c) }
+    ensures ok { IfOk result (λ c. command_of line.now ≡ Some c) }
 
-    // Refused by the line alone, each way for its own cause.
-    ensures syntax { result ≡ Err LineError.Syntax → command_of line.now ≡ Err LineError.Syntax }
-    ensures not_built { result ≡ Err LineError.NotBuilt
-        → command_of line.now ≡ Err LineError.NotBuilt }
+    // Refused by the line alone.
+    ensures syntax { result ≡ Err LineError.Syntax → command_of line.now ≡ None }
 
     // A line within the limit of lines gives commands that every call above can take.
     ensures well_formed { length line.now ≤ line_limit → IfOk result IsWellFormed }
 {
     match read_command(alloc, line) {
-        Ok(command) => {
-            if is_built(&command) {
-                return Ok(command);
-            }
-            Err(LineError::NotBuilt)
-        }
+        Ok(command) => Ok(command),
         Err(Fault::Shape) => Err(LineError::Syntax),
         Err(Fault::Memory) => Err(LineError::OutOfMemory),
     }

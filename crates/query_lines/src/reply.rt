@@ -36,8 +36,6 @@ pub enum OpReply {
 pub enum Refusal {
     /// The line is no command.
     Syntax,
-    /// The line's command, or one of its ops, isn't built yet.
-    NotBuilt,
     /// No text has this name.
     NoName(Bytes),
     /// No literal has the number.

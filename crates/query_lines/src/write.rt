@@ -125,7 +125,6 @@ fn put_refusal(alloc: Global, out: &mut Vec<u8>, refusal: &Refusal) -> Result<()
 {
     match refusal {
         Refusal::Syntax => put(out, "{\"error\":\"syntax\"}"),
-        Refusal::NotBuilt => put(out, "{\"error\":\"not built\"}"),
         Refusal::NoName(name) => {
             put_last_text(
                 alloc,

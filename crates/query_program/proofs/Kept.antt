@@ -17,7 +17,7 @@ step-whole : (s t : Shown) → IsWhole s → t.failed ≡ false → Accounted s.
 step-whole s t w f a = record {
   failed = f;
   credits =
-      let heap : t.pass.heap.layout.credits ≡ s.pass.heap.layout.credits = ap (λ (z : HeapId). z.layout.credits) a.did.one_heap in
+      let heap : t.pass.heap.layout.credits ≡ s.pass.heap.layout.credits = ap (λ (z : HeapId). z.layout.credits) a.made.one_heap in
       let before = w.credits in
       let keeps = a.credits in omega (arith, heap, before, keeps);
 }

@@ -1,12 +1,9 @@
 -- The answers to an input: a fold over its lines and one state, the texts of the names. No buffer, read or write is named here.
-use Rattle.std.specs.Prelude.{ℕ, List, [], ◌∷◌, ◌++◌, Result, Ok, Err}
+use Rattle.std.specs.Prelude.{ℕ, List, [], ◌∷◌, ◌++◌, Option, Some, None}
 use Rattle.std.specs.FinMap as finite
 use Rattle.query_lines.specs.Commands.{command_of}
 use Rattle.query_lines.specs.Replies.{reply_text}
 use Rattle.query_lines.specs.declared.command.Command.{Command}
-use Rattle.query_lines.specs.declared.command.LineError.{LineError}
-use Rattle.query_lines.specs.declared.command.LineError.TheVariants as fault
-use Rattle.query_lines.specs.declared.reply.Refusal.{Refusal}
 use Rattle.query_lines.specs.declared.reply.Refusal.TheVariants as refusal
 use Rattle.query_lines.specs.declared.reply.Reply.{Reply}
 use Rattle.query_lines.specs.declared.reply.Reply.TheVariants as reply
@@ -18,16 +15,10 @@ use Rattle.query_program.specs.Lines.{lines}
 abbrev pub empty : State
 empty = finite.empty
 
--- why a line is refused that gives no command
-abbrev pub refusal_of : LineError → Refusal
-refusal_of fault.Syntax = refusal.Syntax
-refusal_of fault.NotBuilt = refusal.NotBuilt
-refusal_of fault.OutOfMemory = refusal.NotBuilt
-
 -- the reply to what a line was read as, and the state after it; a line that gives no command leaves the state
-abbrev pub reply_to_read : State → Result Command LineError → Reply × State
-reply_to_read state (Ok command) = reply_to state command
-reply_to_read state (Err error) = (reply.Refused (refusal_of error), state)
+abbrev pub reply_to_read : State → Option Command → Reply × State
+reply_to_read state None = (reply.Refused refusal.Syntax, state)
+reply_to_read state (Some command) = reply_to state command
 
 -- the reply to a line, and the state after it
 unfoldable pub answer_line : State → List ℕ → Reply × State

@@ -122,7 +122,6 @@ fn reply_to<'h, R: Threads + Sync, G: Gate>(
     match read_line(alloc, line) {
         Ok(command) => session.step(alloc, rt, command, gate),
         Err(LineError::Syntax) => Ok(Reply::Refused(Refusal::Syntax)),
-        Err(LineError::NotBuilt) => Ok(Reply::Refused(Refusal::NotBuilt)),
         Err(LineError::OutOfMemory) => Err(OutOfMemory),
     }
 }

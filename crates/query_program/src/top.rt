@@ -2,6 +2,7 @@ ghost use Rattle.std.specs.Prelude.{◌≡◌, ◌≢◌, ◌↔◌, ◌⊎◌, 
 ghost use Rattle.crumbs.specs.Fitting.{IsCrumbList};
 ghost use Rattle.slot_table.specs.Owners as owners;
 ghost use Rattle.std.specs.Io.KnownBytes.{Appends, IsAtEnd};
+ghost use Rattle.query_session.specs.Literals.{default_literals};
 ghost use Rattle.outside.specs.Bytes.{AppendsPrefix};
 ghost use Rattle.outside.specs.Causes.{Rose};
 ghost use Rattle.query_program.specs.Answers.{answers, empty};
@@ -166,7 +167,9 @@ fn answer_over<'h, R: Threads + Sync, S: Source, K: Sink, G: Gate>(
     sink: &mut K,
     gate: &G,
 ) -> (Result<(), Stop>, Option<Whole<StrCrumbs>>)
-    requires { pass.credits ≡ pass.heap.layout.credits }
+    requires credits { pass.credits ≡ pass.heap.layout.credits }
+    requires literals { pass.heap.literals ≡ default_literals }
+    requires layout { pass.heap.layout ≡ default_layout }
     ensures ends { IfSome (S.left source.old) (Ends empty (S.left source.new) (K.written sink.old) (K.written sink.new) result.0) }
     ensures read { IsErrOf result.0 Stop.ReadFault → Rose (S.faults source.old) (S.faults source.new) }
     ensures write { IsErrOf result.0 Stop.WriteFault → Rose (K.faults sink.old) (K.faults sink.new) }

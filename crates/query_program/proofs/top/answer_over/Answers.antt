@@ -11,7 +11,7 @@ returns-in_default-clause-ends g c = ends-unbegun empty (g.S.Source.left c.args.
 
 pub answer_stream-end-requires-after_bounds : goal.answer_stream-end-requires-after_bounds
 answer_stream-end-requires-after_bounds g c κs within =
-    let e = c.in-Ok.ensures in begun-whole c.in-Ok.session c.args.pass c.requires e.values e.failed e.pass
+    let e = c.in-Ok.ensures in begun-whole c.in-Ok.session c.args.pass c.requires.credits e.values e.failed e.pass
 
 pub returns-in-Err-OutOfMemory-clause-ends : goal.returns-in-Err-OutOfMemory-clause-ends
 returns-in-Err-OutOfMemory-clause-ends g c =
