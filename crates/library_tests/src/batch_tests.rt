@@ -5,9 +5,9 @@ ghost use Rattle.str_value.specs.Meaning.{OfHeap};
 ghost use Rattle.query_lines.specs.Replies.{IsShownOp};
 ghost use Rattle.batch_workers.specs.Batch.{IsFit};
 
-use crate::batch_workers_tests::ops_of;
+use crate::batch_workers_tests::{ops_of, replies};
 use crate::heaps::whole;
-use batch_workers::{Done, Job, run_batch, run_ops};
+use batch_workers::{Done, Job, run_batch};
 use outside::{Gate, OpenGate};
 use query_lines::{OpReplies, Reply, reply_text};
 use std::alloc::Global;
@@ -114,7 +114,7 @@ fn in_turn(alloc: Global, pass: &mut StrPass, count: usize) -> Result<Vec<u8>, F
         let mut value = value_of(alloc, pass, number)?;
         let (_, list) = KINDS[number % KINDS.len()];
         let ops = ops_of(alloc, list)?;
-        let replies = run_ops(alloc, &mut value, pass, ops.as_slice(), 0)?;
+        let replies = replies(alloc, &mut value, pass, ops.as_slice(), 0)?;
         told(alloc, pass, value, replies, &mut out)?;
     }
     Ok(out)

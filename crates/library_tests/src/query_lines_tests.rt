@@ -4,8 +4,8 @@ ghost use Rattle.std.specs.Prelude.{◌≡◌, All, IfOk, IsUtf8};
 ghost use Rattle.query_lines.specs.Replies.{IsShown, IsShownOp};
 
 use query_lines::{
-    Bytes, Command, Content, JobReplies, LineError, Op, OpReplies, OpReply, Refusal, Reply, View,
-    read_line, reply_text,
+    Bytes, Command, Content, JobLine, JobReplies, LineError, Op, OpReplies, OpReply, Refusal,
+    Reply, View, read_line, reply_text,
 };
 use std::alloc::{AllocError, AllocFailed, Global};
 use std::cmp::Ordering;
@@ -45,6 +45,17 @@ fn push_ops(out: &mut String, ops: &[Op]) -> Result<(), AllocError> {
     Ok(())
 }
 
+fn push_job(out: &mut String, job: &JobLine) -> Result<(), AllocError> {
+    write!(out, " on")?;
+    push_bytes(out, &job.name)?;
+    push_ops(out, job.ops.as_slice())?;
+    if let Some(name) = &job.keep {
+        write!(out, " keep")?;
+        push_bytes(out, name)?;
+    }
+    Ok(())
+}
+
 fn push_content(out: &mut String, what: &Content) -> Result<(), AllocError> {
     match what {
         Content::Text(text) => push_bytes(out, text),
@@ -80,7 +91,13 @@ fn push_command(out: &mut String, command: &Command) -> Result<(), AllocError> {
             push_bytes(out, name)?;
             push_ops(out, ops.as_slice())
         }
-        Command::Batch { .. } => write!(out, "(a command that isn't built)"),
+        Command::Batch { jobs } => {
+            write!(out, "batch")?;
+            for job in jobs.as_slice() {
+                push_job(out, job)?;
+            }
+            Ok(())
+        }
     }
 }
 
@@ -90,7 +107,6 @@ fn outcome(alloc: Global, line: &[u8]) -> Result<String, AllocError> {
     match read_line(alloc, line) {
         Ok(command) => push_command(&mut out, &command)?,
         Err(LineError::Syntax) => write!(out, "syntax")?,
-        Err(LineError::NotBuilt) => write!(out, "not built")?,
         Err(LineError::OutOfMemory) => return Err(AllocError),
     }
     Ok(out)
@@ -142,7 +158,7 @@ fn lines_are_read_by_the_rows_of_the_table(rt: HostRuntime) -> Result<(), Fail> 
         ),
         (
             r#"{"batch":[{"on":"a","do":[],"keep":1,"keep":"b"}]}"#,
-            "not built",
+            "batch on a keep b",
         ),
         (r#"{"on":"a","do":[]}"#, "on a"),
         (
@@ -159,15 +175,15 @@ fn lines_are_read_by_the_rows_of_the_table(rt: HostRuntime) -> Result<(), Fail> 
             r#"{"load":"a","units":[0,55296,65535]}"#,
             "load a units [0, 55296, 65535]",
         ),
-        (r#"{"load":"a","literal":9}"#, "not built"),
+        (r#"{"load":"a","literal":9}"#, "load a literal 9"),
         (r#"{"copy":"a","from":"b"}"#, "copy a b"),
         (r#"{"from":"a","copy":"b"}"#, "copy b a"),
         (r#"{"drop":"a"}"#, "drop a"),
         (r#"{"compare":["a","b"]}"#, "compare a b"),
-        (r#"{"batch":[]}"#, "not built"),
+        (r#"{"batch":[]}"#, "batch"),
         (
             r#"{"batch":[{"on":"a","do":[{"at":1}],"keep":"b"},{"on":"a","do":[]}]}"#,
-            "not built",
+            "batch on a at 1 keep b on a",
         ),
         (
             r#"{"on":"a","do":[{"at":0},{"place":{"utf8":3}}]}"#,
@@ -278,7 +294,7 @@ fn malformed_lines_are_syntax(rt: HostRuntime) -> Result<(), Fail> {
         r#"{"on":"a","do":[{"count":"Utf8"}]}"#,
         r#"{"on":"a","do":[{"text":false}]}"#,
         r#"{"on":"a","do":[{"text":1}]}"#,
-        // Syntax is told before what isn't built.
+        // One op of a list, or one job, is at fault.
         r#"{"on":"a","do":[{"edit":[0,0],"with":""},{"at":1.5}]}"#,
         r#"{"batch":[{"on":"a","do":[]},{"on":"","do":[]}]}"#,
     ] {
@@ -316,10 +332,22 @@ fn names_batches_and_depth_have_limits(rt: HostRuntime) -> Result<(), Fail> {
     let job = r#"{"on":"a","do":[]}"#;
     let later = r#",{"on":"a","do":[]}"#;
     for (front, piece, count, back, want) in [
-        (r#"{"literal":1,"load":""#, "n", 64, r#""}"#, "not built"),
-        (r#"{"literal":1,"load":""#, "n", 65, r#""}"#, "syntax"),
-        (r#"{"literal":1,"load":""#, "é", 32, r#""}"#, "not built"),
-        (r#"{"literal":1,"load":"n"#, "é", 32, r#""}"#, "syntax"),
+        (
+            r#"{"load":""#,
+            "n",
+            64,
+            r#"","literal":1}"#,
+            "load nnnnnnnnnnnnnnnnnnnnnnnnnnnnnnnnnnnnnnnnnnnnnnnnnnnnnnnnnnnnnnnn literal 1",
+        ),
+        (r#"{"load":""#, "n", 65, r#"","literal":1}"#, "syntax"),
+        (
+            r#"{"load":""#,
+            "é",
+            32,
+            r#"","literal":1}"#,
+            "load éééééééééééééééééééééééééééééééé literal 1",
+        ),
+        (r#"{"load":"n"#, "é", 32, r#"","literal":1}"#, "syntax"),
         ("", "[", 200, "", "syntax"),
         (r#"{"text":"x","load":"#, "[", 100, "", "syntax"),
         ("", r#"[{"on":"#, 200, "", "syntax"),
@@ -341,7 +369,8 @@ fn names_batches_and_depth_have_limits(rt: HostRuntime) -> Result<(), Fail> {
             "{deep} lists"
         );
     }
-    for (count, want) in [(63usize, "not built"), (64, "syntax")] {
+    let most = repeated(alloc, "batch", " on a", 64, "")?;
+    for (count, want) in [(63usize, most.as_str()), (64, "syntax")] {
         let front = format!(in alloc; "{{\"batch\":[{job}")?;
         let line = repeated(alloc, front.as_str(), later, count, "]}")?;
         assert_eq!(rt;
@@ -428,8 +457,6 @@ fn refusals_name_their_cause(rt: HostRuntime) -> Result<(), Fail> {
     let alloc = rt.alloc();
     let syntax = written(alloc, &Reply::Refused(Refusal::Syntax))?;
     assert_eq!(rt; syntax.as_slice(), r#"{"error":"syntax"}"#.as_bytes());
-    let not_built = written(alloc, &Reply::Refused(Refusal::NotBuilt))?;
-    assert_eq!(rt; not_built.as_slice(), r#"{"error":"not built"}"#.as_bytes());
     let no_literal = written(alloc, &Reply::Refused(Refusal::NoLiteral))?;
     assert_eq!(rt;
         no_literal.as_slice(),

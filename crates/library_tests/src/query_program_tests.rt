@@ -93,7 +93,7 @@ fn lines_are_answered_however_they_are_cut(rt: HostRuntime) -> Result<(), OutOfM
         ("\n", "{\"error\":\"syntax\"}\n"),
         (
             "\n\n{\"batch\":[]}",
-            "{\"error\":\"syntax\"}\n{\"error\":\"syntax\"}\n{\"error\":\"not built\"}\n",
+            "{\"error\":\"syntax\"}\n{\"error\":\"syntax\"}\n{\"jobs\":[]}\n",
         ),
         (
             "{\"text\":\"é\",\"load\":\"b\"}\r\n\n",
@@ -155,7 +155,7 @@ fn a_failing_call_leaves_the_replies_before_it(rt: HostRuntime) -> Result<(), Ou
     // Each line has 23 bytes and a newline, each reply 33 bytes and a newline.
     let input = b"{\"load\":\"a\",\"text\":\"x\"}\n{\"load\":\"b\",\"text\":\"y\"}\n{\"batch\":[]}";
     let replies =
-        b"{\"scalars\":1,\"utf16\":1,\"utf8\":1}\n{\"scalars\":1,\"utf16\":1,\"utf8\":1}\n{\"error\":\"not built\"}\n";
+        b"{\"scalars\":1,\"utf16\":1,\"utf8\":1}\n{\"scalars\":1,\"utf16\":1,\"utf8\":1}\n{\"jobs\":[]}\n";
     let reply_length = 33;
     // Each run opens a heap of its own, so the calls are those about the ends of lines.
     for call in [1, 2, 24, 25, 26, 48, 49, 60, 61, 62, 69] {
