@@ -109,6 +109,28 @@ def slices():
     return "\n".join(lines) + "\n"
 
 
+def batches():
+    """A text of 1,000 pieces, about 31 KB, then 200 batches of eight jobs, each of 200 places with an edit after each 20; the first job's
+    text is kept."""
+    draw = random.Random(5)
+    text = "".join(draw.choice(PIECES) for _ in range(1000))
+    units = len(text.encode("utf-16-le")) // 2
+    lines = [line({"load": "doc", "text": text})]
+    for _ in range(200):
+        jobs = []
+        for number in range(8):
+            ops = []
+            for op in range(210):
+                if op % 21 == 20:
+                    at = draw.randrange(units - 16)
+                    ops.append({"edit": [at, at + draw.randrange(8)], "with": draw.choice(PIECES)})
+                else:
+                    ops.append({"at": draw.randrange(units)})
+            jobs.append({"on": "doc", "do": ops, **({"keep": "kept"} if number == 0 else {})})
+        lines.append(line({"batch": jobs}))
+    return "\n".join(lines) + "\n"
+
+
 folder = sys.argv[1]
 for name, text in (
     ("small_loads", small_loads(4_000_000)),
@@ -120,6 +142,7 @@ for name, text in (
     ("edits", edits()),
     ("edited_copies", edited_copies()),
     ("slices", slices()),
+    ("batches", batches()),
 ):
     with open(f"{folder}/{name}.jsonl", "w", encoding="utf-8") as out:
         out.write(text)
