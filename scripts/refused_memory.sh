@@ -40,6 +40,9 @@ cat >"$work/input" <<'LINES'
 {"drop":"c"}
 {"on":"zz","do":[]}
 {"load":"a","text":"\u00e9"}
+{"load":"l","literal":3}
+{"batch":[{"on":"b","do":[{"at":3},{"edit":[0,1],"with":"the first of three jobs"}],"keep":"n"},{"on":"b","do":[{"text":true}]},{"on":"l","do":[{"edit":[1,1],"with":"x"},{"slice":[0,3]}],"keep":"l"}]}
+{"on":"n","do":[{"text":true}]}
 [
 LINES
 "$program" <"$work/input" >"$work/want"
