@@ -22,7 +22,7 @@ use Rattle.query_lines.specs.declared.reply.Reply.TheVariants as reply
 use Rattle.query_lines.specs.declared.op.Op.{Op}
 use Rattle.query_lines.specs.declared.reply.OpReply.{OpReply}
 use Rattle.batch_workers.specs.Ops.{op_replies, text_after_ops, is_counts, is_at}
-use Rattle.batch_workers.specs.Working.{IsRead, edits_of}
+use Rattle.batch_workers.specs.Working.{IsRead, IsToInstall, InstallsAt, edits_of}
 use Rattle.query_session.specs.Session.{Shown}
 use Rattle.query_session.specs.Running.{IsRunning}
 use Rattle.query_session.specs.Values.{Values, IsSound, credits_in, credit_in}
@@ -142,7 +142,8 @@ accounted (reply.Refused refused) c m p n q sound s =
 pub ran-done : (name : List ℕ) (ops : List Op) (m n : Values) (p q : PassSeen) (before after : Meaning) (replies : List OpReply) → IsSound m p
     → finite.get m name ≡ Some before → n ≡ finite.insert m name after → after.text ≡ text_after_ops before.text ops → replies ≡ op_replies before.text 0 ops
     → (All (λ r. is_counts r ≡ false) replies → IsRead before after)
-    → ((es : List Event) × Did es p q × (sum_of publishes es ≤ sum_of edits_of replies) × (sum_of retains es ≡ 0))
+    → ((es : List Event) × Did es p q × (sum_of publishes es ≤ sum_of edits_of replies) × (sum_of retains es ≡ 0)
+    × (ops ≢ [] → All (λ o. is_at o ≡ true) ops → IsToInstall p before → InstallsAt before.place before.text es))
     → Keeps p (credit_in before) q (credit_in after) → q.heap ≡ p.heap → OfHeap q after.place
     → (ops ≢ [] → All (λ o. is_at o ≡ true) ops → MayLearn before → Shows p → is_there (side_of after.place) ≡ true)
     → Done (command.On name ops) m p n q
@@ -159,6 +160,7 @@ ran-done name ops m n p q before after replies sound found now text answers uned
     text = text;
     published = subst (λ rs. sum_of publishes worked.0 ≤ sum_of edits_of rs) answers worked.2;
     retained = worked.3;
+    installed = worked.4;
     unedited = subst (λ rs. All (λ r. is_counts r ≡ false) rs → IsRead before after) answers unedited;
     learned = learned;
   };

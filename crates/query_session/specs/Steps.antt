@@ -19,7 +19,7 @@ use Rattle.query_lines.specs.declared.op.Op.{Op}
 use Rattle.query_lines.specs.declared.reply.Reply.{Reply}
 use Rattle.query_lines.specs.declared.reply.Reply.TheVariants as reply
 use Rattle.batch_workers.specs.Ops.{op_replies, text_after_ops, is_counts, is_at}
-use Rattle.batch_workers.specs.Working.{IsRead, edits_of}
+use Rattle.batch_workers.specs.Working.{IsRead, IsToInstall, InstallsAt, edits_of}
 use Rattle.query_session.specs.Values.{Values, IsSound, credits_in, credit_in}
 pub use Rattle.query_session.specs.Copied.{CopiedIn}
 use Rattle.query_session.specs.Batched.{Batched}
@@ -63,7 +63,8 @@ pub record Dropped (m : Values) (name : List ℕ) (n : Values) (es : List Event)
   pub none : sum_of publishes es ≡ 0
 
 -- Ops were done on the value of a name. No more events publish than edits were done, and none takes a reference. Where nothing was edited,
--- its text and its two words are as they were; and it knows its breadcrumbs where places alone were asked for and the pass shows what they take
+-- its text and its two words are as they were; and it knows its breadcrumbs where places alone were asked for and the pass shows what they
+-- take: they are installed where it knew that its slot had none
 pub record RanOn (m : Values) (name : List ℕ) (ops : List Op) (p : PassSeen) (n : Values) (es : List Event) : Type 0 where
   pub before : Meaning
   pub after : Meaning
@@ -74,6 +75,7 @@ pub record RanOn (m : Values) (name : List ℕ) (ops : List Op) (p : PassSeen) (
   pub retained : sum_of retains es ≡ 0
   pub unedited : All (λ r. is_counts r ≡ false) (op_replies before.text 0 ops) → IsRead before after
   pub learned : ops ≢ [] → All (λ o. is_at o ≡ true) ops → MayLearn before → Shows p → is_there (side_of after.place) ≡ true
+  pub installed : ops ≢ [] → All (λ o. is_at o ≡ true) ops → IsToInstall p before → InstallsAt before.place before.text es
 
 -- nothing was done
 pub record Unmoved (m : Values) (p : PassSeen) (n : Values) (q : PassSeen) (es : List Event) : Type 0 where

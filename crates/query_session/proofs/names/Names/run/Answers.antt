@@ -89,4 +89,4 @@ returns-clause-ran g c =
     let stored = held-written m n name c.in-Some.value.now v some (c.get_mut.follows.holds v).3 ∙ ap (λ (x : Values). finite.insert x name v) c.self.view_is in
     let e = c.in_ok-replies.ensures in
     ran-done name c.args.ops.now old (held n.entries) c.args.pass.now c.run_ops.new.pass c.in-Some.value.now v c.in_ok-replies.replies c.requires.sound found stored
-    e.text e.answers e.unedited (e.worked.worked.events, e.worked.worked.did, e.worked.worked.published, e.worked.worked.retained) e.credits e.one_heap e.heap (λ some asked. e.learned some (at-finds _ asked))
+    e.text e.answers e.unedited (e.worked.worked.events, e.worked.worked.did, e.worked.worked.published, e.worked.worked.retained, e.worked.installed) e.credits e.one_heap e.heap (λ some asked. e.learned some (at-finds _ asked))
