@@ -7,3 +7,10 @@ mod Statuses
 mod Steps
 mod Histories
 mod Kept
+mod Doing
+mod Slots
+mod Loading
+mod Sharing
+mod Asking
+mod Used
+mod Stepping

@@ -4,8 +4,10 @@ pub mod Ends
 pub mod Limits
 pub mod Lines
 pub mod Statuses
+pub mod Use
 -- what this crate's proof needs
 pub mod Reads
+pub mod Runs
 pub mod Stops
 pub mod Writes
 pub mod Whole

@@ -1,5 +1,6 @@
 //! Laws of the limits: the constants that definitions cite are these numbers.
 ghost use Rattle.std.specs.Prelude.{◌≡◌};
+ghost use Rattle.query_program.specs.Use.{slot_bytes};
 
 use crate::limits::{CAPACITY_WORDS, CREDITS, INPUT_LIMIT, LINE_LIMIT, SLOTS};
 
@@ -9,9 +10,10 @@ pub fn limits_are()
     ensures input { INPUT_LIMIT ≡ 67108864 }
 {}
 
-/// The heap of a run has 256 slots of 8,192 words, and 4,096 credits.
+/// The heap of a run has 256 slots of 8,192 words, and 4,096 credits. A slot has room for 65,528 bytes of UTF-8 behind its count word.
 pub fn default_heap_is()
     ensures words { CAPACITY_WORDS ≡ 8192 }
     ensures slots { SLOTS ≡ 256 }
     ensures credits { CREDITS ≡ 4096 }
+    ensures bytes { slot_bytes ≡ 65528 }
 {}

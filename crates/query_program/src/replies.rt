@@ -7,6 +7,7 @@ ghost use Rattle.query_session.specs.Values.{texts_of};
 ghost use Rattle.query_program.specs.Whole.{IsWhole};
 ghost use Rattle.query_program.specs.Answers.{answer, answer_line, answers_from, state_after_line};
 ghost use Rattle.query_program.specs.Lines.{whole_lines};
+ghost use Rattle.query_program.specs.Runs.{FirstDone, LineDone, LinesDone, SomeDone};
 ghost use Rattle.query_program.specs.Writes.{IsWriteStopOf, Answered, AnsweredFirst};
 
 use crate::limits::LINE_LIMIT;
@@ -43,6 +44,10 @@ pub(crate) fn answer_lines<'h, R: Threads + Sync, K: Sink, G: Gate>(
     ensures still { IsErrOf result Stop.WriteFault ⊎ (K.faults sink.new ≡ K.faults sink.old) }
     ensures one_heap { session.new.pass.heap ≡ session.old.pass.heap }
     ensures whole { IsErrOf result Stop.OutOfMemory ⊎ IsWhole session.new }
+
+    // What the lines did to the values and on the heap.
+    ensures done { OnOk result (LinesDone (whole_lines buffer.old.bytes) session.old.values session.old.pass session.new.values session.new.pass) }
+    ensures some { IsErrOf result Stop.OutOfMemory ⊎ SomeDone (whole_lines buffer.old.bytes) session.old.values session.old.pass session.new.values session.new.pass (K.written sink.old) (K.written sink.new) }
 {
     'lines: while let Some(length) = buffer.first_line() {
         answer_first(rt, alloc, gate, session, buffer, length, gathered)?;
@@ -67,6 +72,7 @@ fn answer_first<'h, R: Threads + Sync, G: Gate>(
     ensures one_heap { session.new.pass.heap ≡ session.old.pass.heap }
     ensures whole { OnOk result (IsWhole session.new) }
     ensures answered { OnOk result (AnsweredFirst (texts_of session.old.values) (texts_of session.new.values) buffer.old.bytes buffer.new.bytes gathered.old.items gathered.new.items) }
+    ensures done { OnOk result (FirstDone buffer.old.bytes buffer.new.bytes session.old.values session.old.pass session.new.values session.new.pass gathered.old.items gathered.new.items) }
 {
     answer_line(
         rt,
@@ -96,6 +102,7 @@ pub(crate) fn answer_line<'h, R: Threads + Sync, G: Gate>(
     ensures state { OnOk result ((texts_of session.new.values) ≡ state_after_line (texts_of session.old.values) line.now) }
     ensures one_heap { session.new.pass.heap ≡ session.old.pass.heap }
     ensures whole { OnOk result (IsWhole session.new) }
+    ensures done { OnOk result (LineDone line.now session.old.values session.old.pass session.new.values session.new.pass) }
 {
     let reply = reply_to(rt, alloc, gate, session, line)?;
     append_reply(alloc, gathered, &reply)?;
@@ -118,6 +125,7 @@ fn reply_to<'h, R: Threads + Sync, G: Gate>(
     ensures shown { IfOk result IsShown }
     ensures one_heap { session.new.pass.heap ≡ session.old.pass.heap }
     ensures whole { OnOk result (IsWhole session.new) }
+    ensures done { OnOk result (LineDone line.now session.old.values session.old.pass session.new.values session.new.pass) }
 {
     match read_line(alloc, line) {
         Ok(command) => session.step(alloc, rt, command, gate),

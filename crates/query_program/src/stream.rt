@@ -8,6 +8,7 @@ ghost use Rattle.query_program.specs.Answers.{answers_from};
 ghost use Rattle.query_program.specs.Lines.{lines, less_empty_end};
 ghost use Rattle.query_program.specs.Ends.{Ends, Probed, limit_stop};
 ghost use Rattle.query_program.specs.Reads.{IsReadStopOf};
+ghost use Rattle.query_program.specs.Runs.{LinesDone, SomeDone};
 ghost use Rattle.query_program.specs.Writes.{IsWriteStopOf};
 
 use crate::limits::{INPUT_LIMIT, LINE_LIMIT};
@@ -39,6 +40,10 @@ pub(crate) fn answer_stream<'h, R: Threads + Sync, S: Source, K: Sink, G: Gate>(
     ensures sink_still { IsErrOf result Stop.WriteFault ⊎ (K.faults sink.new ≡ K.faults sink.old) }
     ensures one_heap { session.new.pass.heap ≡ session.old.pass.heap }
     ensures whole { IsErrOf result Stop.OutOfMemory ⊎ IsWhole session.new }
+
+    // What the lines did to the values and on the heap.
+    ensures done { IfSome (S.left source.old) (λ input. IsErrOf result Stop.OutOfMemory
+        ⊎ SomeDone (lines input) session.old.values session.old.pass session.new.values session.new.pass (K.written sink.old) (K.written sink.new)) }
 {
     let mut buffer = LineBuffer::new(alloc)?;
     let mut gathered = Vec::new(alloc);
@@ -80,6 +85,7 @@ fn answer_last<'h, R: Threads + Sync, K: Sink, G: Gate>(
     ensures still { IsErrOf result Stop.WriteFault ⊎ (K.faults sink.new ≡ K.faults sink.old) }
     ensures one_heap { session.new.pass.heap ≡ session.old.pass.heap }
     ensures whole { IsErrOf result Stop.OutOfMemory ⊎ IsWhole session.new }
+    ensures done { IsErrOf result Stop.OutOfMemory ⊎ LinesDone (less_empty_end (buffer.now.bytes ∷ [])) session.old.values session.old.pass session.new.values session.new.pass }
 {
     if buffer.len() == 0 {
         return Ok(());

@@ -9,7 +9,9 @@ ghost use Rattle.query_program.specs.Answers.{answers, empty};
 ghost use Rattle.query_program.specs.Default.{default_layout};
 ghost use Rattle.query_program.specs.Ends.{Ends, AnsweredWhole, AnsweredPart, EndsByLine, EndsByInput, TookFew};
 ghost use Rattle.query_program.specs.Limits.{HasLongLine, HasTooManyBytes, IsWithin};
+ghost use Rattle.query_program.specs.Runs.{RunDone};
 ghost use Rattle.query_program.specs.Statuses.{IsStatus, IsUnhindered, status_of_end};
+ghost use Rattle.query_program.specs.Use.{UsesStorage};
 
 use crate::heap::{ended, opened};
 use crate::stop::Stop;
@@ -100,6 +102,10 @@ pub fn run<R: Threads + Sync, S: Source, K: Sink, G: Gate>(
     ensures history { IsSome result.history ↔ ((result.status ≢ 2) × (result.status ≢ 5)) }
     ensures layout { IfSome result.history (λ h. h.layout ≡ default_layout) }
     ensures legal { IfSome result.history (λ h. owners.Ends (IsCrumbList 64) h) }
+
+    // What the answered lines ask of the storage is in it: a Publish for each slot load, in order, a Retain for each copy that shares a slot,
+    // an Install for each first question that breadcrumbs are for.
+    ensures used { IfSome (S.left source.old) (λ input. IfSome result.history (λ h. UsesStorage input (K.written sink.old) (K.written sink.new) h.history)) }
 {
     if words.len() != 0 {
         return Ended {
@@ -140,6 +146,7 @@ fn answer_input<R: Threads + Sync, S: Source, K: Sink, G: Gate>(
     ensures history { IsSome result.history ↔ (IsErrOf result.end Stop.OutOfMemory → ⊥) }
     ensures layout { IfSome result.history (λ h. h.layout ≡ default_layout) }
     ensures legal { IfSome result.history (λ h. owners.Ends (IsCrumbList 64) h) }
+    ensures used { IfSome (S.left source.old) (λ input. IfSome result.history (λ h. UsesStorage input (K.written sink.old) (K.written sink.new) h.history)) }
 {
     let Some((heap, whole)) = opened(alloc) else {
         return Answered {
@@ -177,6 +184,7 @@ fn answer_over<'h, R: Threads + Sync, S: Source, K: Sink, G: Gate>(
     ensures sink_still { IsErrOf result.0 Stop.WriteFault ⊎ (K.faults sink.new ≡ K.faults sink.old) }
     ensures whole { IsSome result.1 ↔ (IsErrOf result.0 Stop.OutOfMemory → ⊥) }
     ensures heap { IfSome result.1 (λ w. w.heap ≡ pass.entry.heap) }
+    ensures done { IfSome (S.left source.old) (λ input. IfSome result.1 (λ w. RunDone input pass.entry w (K.written sink.old) (K.written sink.new))) }
 {
     let Ok(mut session) = Session::new(alloc, pass, 1) else {
         return (Err(Stop::OutOfMemory), None);

@@ -6,12 +6,14 @@ use Rattle.std.specs.Prelude.{IsErrAnd}
 use Rattle.std.proofs.lemmas.List.{nil_from_length}
 use Rattle.query_session.specs.Values.{texts_of}
 use Rattle.query_program.specs.Answers.{answers_from}
-use Rattle.query_program.specs.Lines.{less_empty_end, whole_lines}
+use Rattle.query_program.specs.Lines.{lines, less_empty_end, whole_lines}
 use Rattle.query_program.specs.Ends.{Ends, Probed, limit_stop}
 use Rattle.query_program.specs.Reads.{Filled}
 use Rattle.query_program.specs.Writes.{Answered}
 use Rattle.query_program.specs.declared.stop.Stop.{Stop}
 use Rattle.query_program.proofs.Progress.{progress-on, ends-read, ends-write, ends-last, ends-line, ends-limit, answered-none, last-end, LastEnd}
+use Rattle.query_program.specs.Runs.{LinesDone, SomeDone}
+use Rattle.query_program.proofs.Stepping.{DoneUnless, reading-on, some-read, some-kept, some-written, some-last}
 use Rattle.query_program.proofs.stream.answer_stream.Goals as goal
 
 -- a read that gave nothing took nothing
@@ -66,9 +68,12 @@ reads-preserved g c =
     let same = ap (λ b. b.bytes) c.is_full_of_one_line.ensures.same in
     let answered = subst (λ xs. Answered (texts_of c.reads.session.values) (texts_of c.answer_lines.new.session.values) xs c.answer_lines.new.buffer.bytes (g.K.Sink.written c.reads.sink) (g.K.Sink.written c.answer_lines.new.sink))
     same c.in_ok-answer_lines.ensures.answered in
+    let done = subst (λ xs. LinesDone (whole_lines xs) c.reads.session.values c.reads.session.pass c.answer_lines.new.session.values c.answer_lines.new.session.pass) same c.in_ok-answer_lines.ensures.done in
     record {
       progress = progress-on _ _ _ _ _ _ _ _ i.progress (texts_of c.answer_lines.new.session.values) (g.S.Source.left c.fill.new.source) (g.K.Sink.written c.answer_lines.new.sink) c.fill.new.self.bytes c.answer_lines.new.buffer.bytes _ _
           c.in_ok-count.ensures.filled c.in_ok-count.ensures.bound answered;
+      reading = reading-on _ _ _ _ _ _ _ _ _ i.reading c.answer_lines.new.session.values c.answer_lines.new.session.pass (g.S.Source.left c.fill.new.source) (g.K.Sink.written c.answer_lines.new.sink)
+          c.fill.new.self.bytes c.answer_lines.new.buffer.bytes _ _ c.in_ok-count.ensures.filled done answered.replies answered.rest;
       within = search rules;
       fits = omega (arith, ap length answered.rest, c.is_full_of_one_line.ensures.short (search rules));
       empty = search rules;
@@ -99,3 +104,47 @@ returns-clause-ends g c =
     let is : c.limit_passed.result ≡ limit_stop (length c.reads.buffer.bytes) c.in-Some.byte = search rules in
     subst (λ s. IfSome (g.S.Source.left c.args.source.now) (Ends (texts_of c.args.session.now.values) (g.S.Source.left c.read_one.new.source) (g.K.Sink.written c.args.sink.now) (g.K.Sink.written c.reads.sink) (Err s))) (sym is)
     (ends-limit _ _ _ _ _ _ _ _ i.progress (g.S.Source.left c.read_one.new.source) c.in-Some.byte r (search rules) i.fits)
+
+-- ---- what the lines did
+
+pub returns-in_err-count-clause-done : goal.returns-in_err-count-clause-done
+returns-in_err-count-clause-done g c =
+    some-kept _ _ _ _ _ _ _ _ _ c.reads.invariant.reading (g.S.Source.left c.fill.new.source) c.from_residual-in_err-count.result c.in_err-count.ensures.kept.1
+
+pub returns-then-count-eq0-clause-done : goal.returns-then-count-eq0-clause-done
+returns-then-count-eq0-clause-done g c =
+    let n = nothing-read _ _ _ _ _ _ c.in_ok-count.ensures.filled (search rules) in
+    some-last _ _ _ _ _ _ _ _ _ c.reads.invariant.reading c.answer_last.new.session.values c.answer_last.new.session.pass (g.S.Source.left c.fill.new.source) (g.K.Sink.written c.answer_last.new.sink)
+    c.answer_last.result n.0 n.1
+    (subst (λ xs. DoneUnless c.answer_last.result (LinesDone (less_empty_end (xs ∷ [])) c.reads.session.values c.reads.session.pass c.answer_last.new.session.values c.answer_last.new.session.pass)) n.2 c.answer_last.ensures.done)
+    (subst (λ xs. AppendsPrefix (g.K.Sink.written c.reads.sink) (g.K.Sink.written c.answer_last.new.sink) (answers_from (texts_of c.reads.session.values) (less_empty_end (xs ∷ [])))) n.2 c.answer_last.ensures.begun)
+
+pub returns-in_err-answer_lines-clause-done : goal.returns-in_err-answer_lines-clause-done
+returns-in_err-answer_lines-clause-done g c =
+    let stop = c.in_err-answer_lines.field-0.0 in
+    let same = ap (λ b. b.bytes) c.is_full_of_one_line.ensures.same in
+    subst (λ r. IfSome (g.S.Source.left c.args.source.now) (λ input. DoneUnless r (SomeDone (lines input) c.args.session.now.values c.args.session.now.pass c.answer_lines.new.session.values c.answer_lines.new.session.pass (g.K.Sink.written c.args.sink.now) (g.K.Sink.written c.answer_lines.new.sink))))
+    (sym (error-of c.from_residual-in_err-answer_lines.result stop c.from_residual-in_err-answer_lines.ensures.1))
+    (some-written _ _ _ _ _ _ _ _ _ c.reads.invariant.reading c.answer_lines.new.session.values c.answer_lines.new.session.pass (g.S.Source.left c.fill.new.source) (g.K.Sink.written c.answer_lines.new.sink)
+    c.fill.new.self.bytes _ _ (Err stop) c.in_ok-count.ensures.filled
+    (subst (λ xs. DoneUnless (Err stop) (SomeDone (whole_lines xs) c.reads.session.values c.reads.session.pass c.answer_lines.new.session.values c.answer_lines.new.session.pass (g.K.Sink.written c.reads.sink) (g.K.Sink.written c.answer_lines.new.sink)))
+    same c.in_err-answer_lines.ensures.some))
+
+pub returns-then-is_full_of_one_line-clause-done : goal.returns-then-is_full_of_one_line-clause-done
+returns-then-is_full_of_one_line-clause-done g c =
+    some-read _ _ _ _ _ _ _ _ _ c.reads.invariant.reading (g.S.Source.left c.fill.new.source) c.in_ok-count.ensures.filled.read _ c.in_ok-count.ensures.filled.taken
+
+pub returns-in_err-read_one-clause-done : goal.returns-in_err-read_one-clause-done
+returns-in_err-read_one-clause-done g c =
+    some-kept _ _ _ _ _ _ _ _ _ c.reads.invariant.reading (g.S.Source.left c.read_one.new.source) c.from_residual-in_err-read_one.result c.in_err-read_one.ensures.kept
+
+pub returns-in-None-clause-done : goal.returns-in-None-clause-done
+returns-in-None-clause-done g c =
+    let r : Probed (g.S.Source.left c.reads.source) (g.S.Source.left c.read_one.new.source) None = search rules in
+    some-last _ _ _ _ _ _ _ _ _ c.reads.invariant.reading c.answer_last-in-None.new.session.values c.answer_last-in-None.new.session.pass (g.S.Source.left c.read_one.new.source)
+    (g.K.Sink.written c.answer_last-in-None.new.sink) c.answer_last-in-None.result r.0 r.1 c.answer_last-in-None.ensures.done c.answer_last-in-None.ensures.begun
+
+pub returns-clause-done : goal.returns-clause-done
+returns-clause-done g c =
+    let r : Probed (g.S.Source.left c.reads.source) (g.S.Source.left c.read_one.new.source) (Some c.in-Some.byte) = search rules in
+    some-read _ _ _ _ _ _ _ _ _ c.reads.invariant.reading (g.S.Source.left c.read_one.new.source) (c.in-Some.byte ∷ []) _ r
