@@ -7,6 +7,7 @@ mod Statuses
 mod Steps
 mod Histories
 mod Kept
+mod Examples
 mod Doing
 mod Slots
 mod Loading
