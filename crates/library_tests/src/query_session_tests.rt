@@ -5,9 +5,11 @@ use outside::OpenGate;
 use query_lines::{LineError, read_line, reply_text};
 use query_session::{Session, default_literals};
 use std::alloc::Global;
+use std::process::Abort;
 use std::thread::Threads;
 use text_spec::OutOfMemory;
 use value_heaps::{layout, opened};
+use word_units::Text;
 
 /// The text of the reply to a line, or nothing where the line is no command.
 fn answer<R: Threads + Sync>(
@@ -316,6 +318,59 @@ fn refused_lines_and_ops_leave_every_name(rt: HostRuntime) -> Result<(), OutOfMe
             );
         }
     }
+    let whole = session.end().end();
+    assert!(rt; whole.is_ok(), "a credit did not come back");
+    Ok(())
+}
+
+/// The second word of a name's value, which has its slot's number, and whether the value knows its breadcrumbs.
+fn slot_and_breadcrumbs(rt: &impl Abort, session: &Session, name: &[u8]) -> (u64, bool)
+    requires { session.now.failed ≡ false }
+{
+    assert!(rt; session.has(name), "a name that is not in use");
+    let value = session.value(name);
+    (value.object().w1(), value.crumbs_known())
+}
+
+#[test]
+fn copies_share_a_slot_until_one_is_edited(rt: HostRuntime) -> Result<(), OutOfMemory> {
+    let literals = default_literals(rt.alloc())?;
+    let opened = opened(rt.alloc(), &layout(256, 8_192, 4_096), &literals);
+    let (heap, whole) = opened.expect(&rt, "no heap");
+    let mut session = Session::new(rt.alloc(), heap.pass(whole), 1)?;
+    let load = r#"{"load":"a","text":"ééééééééééééééééééééééééééééééééééééééééééééééééééééééééééééééé😀ééééééééééééééééééééééééééééééééééééééééééééééééééééééééééééééé"}"#;
+    let _reply = answer(&rt, rt.alloc(), &mut session, load.as_bytes())?;
+    let copy = br#"{"copy":"b","from":"a"}"#;
+    let _reply = answer(&rt, rt.alloc(), &mut session, copy)?;
+    let (slot, _) = slot_and_breadcrumbs(&rt, &session, b"a");
+    let (copied, known) = slot_and_breadcrumbs(&rt, &session, b"b");
+    assert_eq!(rt; copied, slot, "a copy in a slot of its own");
+    assert!(rt; !known, "breadcrumbs that nobody asked for");
+
+    let question = br#"{"on":"a","do":[{"at":64}]}"#;
+    let reply = answer(&rt, rt.alloc(), &mut session, question)?;
+    let wanted = br#"{"results":[{"utf16":63,"utf8":126,"value":128512}]}"#;
+    assert_eq!(rt; reply.as_slice(), wanted.as_slice(), "a place");
+    let (asked, known) = slot_and_breadcrumbs(&rt, &session, b"a");
+    assert_eq!(rt; asked, slot, "a text that a question moved");
+    assert!(rt; known, "breadcrumbs that were not learned");
+    let (_, known) = slot_and_breadcrumbs(&rt, &session, b"b");
+    assert!(rt; !known, "breadcrumbs that another name learned");
+
+    let edit = br#"{"on":"b","do":[{"edit":[0,1],"with":""}]}"#;
+    let reply = answer(&rt, rt.alloc(), &mut session, edit)?;
+    let wanted = br#"{"results":[{"scalars":126,"utf16":127,"utf8":254}]}"#;
+    assert_eq!(rt; reply.as_slice(), wanted.as_slice(), "an edit of a copy");
+    let (edited, _) = slot_and_breadcrumbs(&rt, &session, b"b");
+    assert!(rt; edited != slot, "an edit in the slot of another name");
+
+    let edit = br#"{"on":"b","do":[{"edit":[0,0],"with":"x"}]}"#;
+    let reply = answer(&rt, rt.alloc(), &mut session, edit)?;
+    let wanted = br#"{"results":[{"scalars":127,"utf16":128,"utf8":255}]}"#;
+    assert_eq!(rt; reply.as_slice(), wanted.as_slice(), "an edit of a text alone in its slot");
+    let (again, _) = slot_and_breadcrumbs(&rt, &session, b"b");
+    assert_eq!(rt; again, edited, "an edit that was not done in place");
+
     let whole = session.end().end();
     assert!(rt; whole.is_ok(), "a credit did not come back");
     Ok(())

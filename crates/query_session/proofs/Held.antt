@@ -1,5 +1,5 @@
 -- A map under texts, as the values that it holds.
-use Rattle.std.proofs.Common.{◌≡◌, refl, sym, ap, ◌∙◌, Bool, true, false, cond, ◌||◌, ◌+◌, ◌-◌, ◌<◌, ◌≤◌, nat_lt, is_some, T, subst, List, [], ◌∷◌, ℕ, map, Option, Some, None, IsSome, String, string_bytes, arith, true≢false, lt_of_not-le, Bor, MatchOption}
+use Rattle.std.proofs.Common.{◌≡◌, refl, sym, ap, ◌∙◌, Bool, true, false, cond, ◌||◌, ◌+◌, ◌-◌, ◌<◌, ◌≤◌, nat_lt, is_some, T, subst, List, [], ◌∷◌, ℕ, map, Option, Some, None, IsSome, IsUtf8, String, string_bytes, arith, true≢false, lt_of_not-le, Bor, MatchOption}
 use Rattle.std.specs.Option.{option_map, option_copied}
 use Rattle.std.specs.Ordering.{nat_cmp, eq_by_cmp, is_eq}
 use Rattle.std.specs.Cmp.Lexicographic.{slice_cmp, nat_list_cmp_total}
@@ -10,6 +10,7 @@ use Rattle.std.specs.String.{string_cmp}
 use Rattle.std.specs.BTreeMap.{BTreeMap, get_by_text, is_at, UpdatesBy}
 use Rattle.std.specs.Map.{lookup}
 use Rattle.std.proofs.lemmas.Cmp.{eq_by_cmp_equiv}
+use Rattle.std.proofs.lemmas.Str.{IsUtf8-string_bytes}
 use Rattle.std.proofs.lemmas.Map.Text.{is_eq-slice_cmp, btree_map_updates_text}
 use Rattle.std.proofs.lemmas.Bool.{ltb-true}
 use Rattle.str_value.specs.Meaning.{Meaning}
@@ -17,6 +18,7 @@ use Rattle.query_session.specs.State.{has_room, is_in_use}
 use Rattle.query_session.specs.Values.{Values, texts_of}
 use Rattle.query_session.specs.Held.{held, value_entry}
 use Rattle.query_session.proofs.Sums.{get-texts, has-texts, len-texts}
+use Rattle.query_session.proofs.States.{same-bytes}
 
 abbrev pub Map : Type 0
 Map = BTreeMap (String Global) Meaning
@@ -88,6 +90,20 @@ one_fewer m name v n is some = lt_of_not-le (λ (f : n ≤ 0). some_named m name
 -- whether a name is in use, by the map
 pub in_use : (m : Map) (name : List ℕ) (v : Meaning) → get_by_text m name ≡ Some v → is_in_use (texts_of (held m.entries)) name ≡ true
 in_use m name v some = has-texts (held m.entries) name ∙ ap is_some (get-held m name ∙ some)
+
+-- a key that is found is a text
+key-by : (k : String Global) (q : List ℕ) (b : Bool) (rest : Option Meaning) (v : Meaning) → is_eq (slice_cmp nat_cmp q (string_bytes k)) ≡ b
+    → (is_some rest ≡ true → IsUtf8 q) → is_some (cond b (Some v) rest) ≡ true → IsUtf8 q
+key-by k q true rest v same f is = subst IsUtf8 (sym (same-bytes q (string_bytes k) (sym (is_eq-slice_cmp q (string_bytes k)) ∙ same))) (IsUtf8-string_bytes k)
+key-by k q false rest v same f is = f is
+
+key-text : (q : List ℕ) (es : List (String Global × Meaning)) → is_some (lookup (is_at (λ k. slice_cmp nat_cmp q (string_bytes k))) es) ≡ true → IsUtf8 q
+key-text q [] is = absurd (true≢false (sym is))
+key-text q (e ∷ es) is = key-by e.0 q (is_eq (slice_cmp nat_cmp q (string_bytes e.0))) (lookup (is_at (λ k. slice_cmp nat_cmp q (string_bytes k))) es) e.1 refl (key-text q es) is
+
+-- a name in use is a text
+pub named-text : (m : Map) (name : List ℕ) → is_in_use (texts_of (held m.entries)) name ≡ true → IsUtf8 name
+named-text m name is = key-text name m.entries (ap is_some (sym (get-held m name)) ∙ (sym (has-texts (held m.entries) name) ∙ is))
 
 pub not_in_use : (m : Map) (name : List ℕ) → get_by_text m name ≡ None → is_in_use (texts_of (held m.entries)) name ≡ false
 not_in_use m name none = has-texts (held m.entries) name ∙ ap is_some (get-held m name ∙ none)

@@ -20,6 +20,7 @@ use std::cmp::Ordering;
 use std::collections::BTreeMap;
 use std::marker::{Brand, Model};
 use std::mem::swap;
+use std::str::from_utf8;
 use std::sync::ledger::{Blank, Ledger};
 use str_value::{MakeError, Str, StrPass};
 use text_spec::OutOfMemory;
@@ -70,6 +71,32 @@ impl<'h> Names<'h> {
         ensures { result ≡ is_in_use (texts_of self.now) name.now }
     {
         self.values.get(name).is_some()
+    }
+
+    // Whether bytes are a name in use.
+    pub(crate) fn has_bytes(&self, name: &[u8]) -> bool
+        ensures { result ≡ is_in_use (texts_of self.now) name.now }
+    {
+        let values = &self.values;
+        match from_utf8(name) {
+            Ok(name) => values.get(name).is_some(),
+            Err(_) => false,
+        }
+    }
+
+    // The value of a name in use.
+    pub(crate) fn value(&self, name: &[u8]) -> &Str<'h>
+        requires { IsTrue (is_in_use (texts_of self.now) name.now) }
+        ensures { finite.get self.now name.now ≡ Some result.now }
+    {
+        let values = &self.values;
+        let Ok(name) = from_utf8(name) else {
+            unreachable!();
+        };
+        match values.get(name) {
+            Some(value) => value,
+            None => unreachable!(),
+        }
     }
 
     // A copy of the value of a name in use.

@@ -1,5 +1,5 @@
 //! The session and its calls.
-ghost use Rattle.std.specs.Prelude.{◌≡◌, ◌≤◌, List, true, false, is_err, All, IfOk, OnOk, OnErr, IsOk};
+ghost use Rattle.std.specs.Prelude.{◌≡◌, ◌≤◌, List, true, false, Some, is_err, All, IfOk, OnOk, OnErr, IsOk, IsTrue};
 ghost use Rattle.std.specs.FinMap as finite;
 ghost use Rattle.slot_model.specs.declared.event.Event.{Event};
 ghost use Rattle.slot_accounts.specs.Account.{Did, Keeps};
@@ -8,6 +8,7 @@ ghost use Rattle.query_lines.specs.Replies.{IsShown};
 ghost use Rattle.query_session.specs.Literals.{default_literals};
 ghost use Rattle.query_session.specs.Reply.{IsFree, IsLeft, IsRefused, reply_to, on_reply};
 ghost use Rattle.query_session.specs.State as state;
+ghost use Rattle.query_session.specs.State.{text_of, is_in_use};
 ghost use Rattle.query_session.specs.Steps.{Stepped, Accounted};
 ghost use Rattle.query_session.specs.Values.{HasEnough, IsSound, texts_of, credits_in, credits_needed};
 ghost use Rattle.query_session.specs.Running.{worker_limit};
@@ -23,7 +24,7 @@ use std::alloc::Global;
 use std::marker::{Brand, Model};
 use std::sync::ledger::{Blank, Ledger};
 use std::thread::Threads;
-use str_value::StrPass;
+use str_value::{Str, StrPass};
 use text_spec::OutOfMemory;
 use word_units::Steps;
 
@@ -114,6 +115,23 @@ impl<'h> Session<'h> {
                 Err(refused)
             }
         }
+    }
+
+    /// Whether a name, as UTF-8, is in use. No memory is taken.
+    pub fn has(&self, name: &[u8]) -> bool
+        ensures { result ≡ is_in_use (texts_of self.now.values) name.now }
+    {
+        self.names.has_bytes(name)
+    }
+
+    /// The value that stands for a name, which is in use. No step may have answered `OutOfMemory`. No memory is taken.
+    pub fn value(&self, name: &[u8]) -> &Str<'h>
+        requires named { IsTrue (is_in_use (texts_of self.now.values) name.now) }
+        requires whole { self.now.failed ≡ false }
+        ensures value { finite.get self.now.values name.now ≡ Some result.now }
+        ensures text { text_of (texts_of self.now.values) name.now ≡ Some result.now.text }
+    {
+        self.names.value(name)
     }
 
     /// Releases every value. No step may have answered `OutOfMemory`. The pass has every credit that the values held.
