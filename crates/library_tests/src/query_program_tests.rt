@@ -194,6 +194,64 @@ fn a_failing_call_leaves_the_replies_before_it(rt: HostRuntime) -> Result<(), Ou
 }
 
 #[test]
+fn each_read_that_fails_leaves_the_replies_to_the_whole_lines(
+    rt: HostRuntime,
+) -> Result<(), OutOfMemory> {
+    // The first line has 22 bytes and a newline, its reply 33 with its own.
+    let input = b"{\"load\":\"a\",\"text\":\"\"}\n{\"on\":\"a\",\"do\":[{\"at\":0},{\"at\":1}]}\n";
+    let replies =
+        b"{\"scalars\":0,\"utf16\":0,\"utf8\":0}\n{\"results\":[{\"utf16\":0,\"utf8\":0,\"value\":null},{\"error\":\"out of bounds\",\"utf16\":0}]}\n";
+    // The bytes are read one at a time, and one call more finds the end.
+    for call in 1..input.len() + 2 {
+        let got = run_over(&rt, rt.alloc(), input, 1, 1000, (call as u64, 0))?;
+        let count = if call <= 23 {
+            0
+        } else if call <= input.len() {
+            33
+        } else {
+            replies.len()
+        };
+        assert_eq!(rt; got.status, 3, "read {call} fails");
+        assert_eq!(rt;
+            got.written.as_slice(),
+            &replies[..count],
+            "read {call} fails"
+        );
+    }
+    Ok(())
+}
+
+/// A run whose input is cut here ends as if the input had been no longer: a last line without its newline is answered as it stands.
+#[test]
+fn an_input_may_end_at_each_byte(rt: HostRuntime) -> Result<(), OutOfMemory> {
+    let alloc = rt.alloc();
+    // The first line has 34 bytes and a newline, its reply 33 with its own.
+    let input =
+        b"{\"load\":\"v\",\"units\":[55357,56832]}\n{\"on\":\"v\",\"do\":[{\"edit\":[0,0],\"with\":\"x\"},{\"text\":true}]}\n";
+    let replies =
+        "{\"scalars\":1,\"utf16\":2,\"utf8\":4}\n{\"results\":[{\"scalars\":2,\"utf16\":3,\"utf8\":5},{\"text\":\"x😀\"}]}\n".as_bytes();
+    for end in 0..input.len() + 1 {
+        let (count, is_cut) = if end < 34 {
+            (0, end > 0)
+        } else if end < input.len() - 1 {
+            (33, end > 35)
+        } else {
+            (replies.len(), false)
+        };
+        let mut wanted = Vec::from_slice(alloc, &replies[..count])?;
+        if is_cut {
+            wanted.extend_from_slice(SYNTAX)?;
+        }
+        let got = run_over(&rt, alloc, &input[..end], 1000, 1000, (0, 0))?;
+        assert_eq!(rt; got.status, 0, "end at {end}");
+        assert_eq!(rt; got.written.as_slice(), wanted.as_slice(), "end at {end}");
+    }
+    let got = run_over(&rt, alloc, &[b'['; 200], 1000, 1000, (0, 0))?;
+    assert_eq!(rt; (got.status, got.written.as_slice()), (0, SYNTAX));
+    Ok(())
+}
+
+#[test]
 fn a_sink_may_take_a_byte_a_call(rt: HostRuntime) -> Result<(), OutOfMemory> {
     let alloc = rt.alloc();
     let input = b"{\"load\":\"a\",\"text\":\"x\"}\n{\"load\":";

@@ -287,6 +287,19 @@ fn both_copy<'h, R: Threads>(rt: &R, alloc: Global, pass: &mut Pass<'h, NotEmpty
     Some(gathered(pass, one, other))
 }
 
+// The same a thousand times. How often no copy was the last, and the one left alone in the end.
+fn both_copy_often<'h, R: Threads>(rt: &R, alloc: Global, pass: &mut Pass<'h, NotEmpty>) -> u64
+    ensures { pass.new.heap ≡ pass.old.heap }
+{
+    let mut right: u64 = 0;
+    for _ in 0..1000 {
+        if both_copy(rt, alloc, pass) == Some(1) {
+            right = right.wrapping_add(1);
+        }
+    }
+    right
+}
+
 // Both publish, at once, hand their references to each other, and give them up, again and again. How many references went right.
 fn hand_over_often<'h, R: Threads>(
     rt: &R,
@@ -440,7 +453,7 @@ fn raced<'h, R: Threads>(
         Contest::Publish => publish_beside(rt, alloc, &mut pass, false),
         Contest::Write => publish_beside(rt, alloc, &mut pass, true),
         Contest::HandOver => hand_over_often(rt, alloc, &mut pass),
-        Contest::Copy => both_copy(rt, alloc, &mut pass),
+        Contest::Copy => Some(both_copy_often(rt, alloc, &mut pass)),
         Contest::Release => Some(both_let_go_often(rt, alloc, &mut pass)),
         Contest::Install => Some(races(rt, alloc, &mut pass)),
     };
@@ -454,9 +467,14 @@ fn two_owners_of_one_heap(rt: HostRuntime) -> Result<(), Fail> {
         (Contest::Publish, 2, 2000),
         (Contest::Write, 2, 2000),
         (Contest::HandOver, 2, 2000),
-        (Contest::Copy, 1, 1),
+        (Contest::Copy, 1, 1000),
+        (Contest::Copy, 2, 1000),
+        (Contest::Copy, 4, 1000),
         (Contest::Release, 1, 1000),
+        (Contest::Release, 2, 1000),
+        (Contest::Release, 4, 1000),
         (Contest::Install, 3, 1000),
+        (Contest::Install, 4, 1000),
     ];
     for (contest, slots, wanted) in rows {
         let (heap, whole) = opened(&rt, alloc, &layout(2, slots, 10));

@@ -19,9 +19,13 @@ mod parts;
 #[cfg(test)]
 mod racing;
 #[cfg(test)]
+mod racing_edits;
+#[cfg(test)]
 mod readers;
 #[cfg(test)]
 mod reading;
+#[cfg(test)]
+mod scarce;
 #[cfg(test)]
 mod values;
 #[cfg(test)]

@@ -1,0 +1,5 @@
+use Rattle.std.proofs.Common.{◌≡◌}
+use Rattle.value_tests.proofs.racing_edits.read_often.Given as goal
+
+abbrev pub invariant-loop : goal.invariant-loop
+invariant-loop l = (l.owner.pass ≡ l.fn.owner.pass) × (l.owner.value ≡ l.fn.owner.value)
