@@ -1,4 +1,4 @@
-ghost use Rattle.std.specs.Prelude.{◌≡◌, ◌<◌, ◌≤◌, min, length, IsOk, IfOk, OnErr};
+ghost use Rattle.std.specs.Prelude.{◌≡◌, ◌<◌, ◌≤◌, length, IsOk, IfOk, OnErr, Some};
 ghost use Rattle.std.specs.Io.{ReadsAtMost};
 ghost use Rattle.outside.specs.Bytes.{ReadTakes};
 ghost use Rattle.outside.specs.Causes.{Rose, faults_after_read};

@@ -1,6 +1,7 @@
 //! The line of a batch: eight jobs of 210 ops each.
-ghost use Rattle.std.specs.Prelude.{◌≡◌, ◌<◌, ◌≤◌, ◌^◌, [], ◌∷◌, ◌++◌, length};
+ghost use Rattle.std.specs.Prelude.{◌≡◌, ◌+◌, ◌<◌, ◌≤◌, ◌^◌, [], ◌∷◌, ◌++◌, length};
 ghost use Rattle.made_input.specs.Draws.{drawn, stepped};
+ghost use Rattle.made_input.specs.Pieces.{piece};
 ghost use Rattle.made_input.specs.Made as made;
 ghost use Rattle.made_input.specs.Made.{after_batch, after_op, after_ops, at_op, batch_line, comma, edit_op, edit_text, job, keep};
 
@@ -15,6 +16,7 @@ const JOBS: u32 = 8;
 const OPS: u32 = 210;
 
 /// A comma, before each member of a list but the first.
+#[tactic(auto, unfolding(crate::specs::Made::comma))]
 fn put_comma(line: &mut Line, number: u32)
     requires { length (line.old ++ comma number) ≤ LINE_ROOM }
     ensures { line.new ≡ line.old ++ comma number }
@@ -25,6 +27,7 @@ fn put_comma(line: &mut Line, number: u32)
 }
 
 /// An op that asks for a place of a text of so many UTF-16 units.
+#[tactic(auto, unfolding(crate::specs::Made::at_op))]
 fn put_at(line: &mut Line, draws: &mut Draws, units: u32)
     requires some { 0 < units }
     requires room { length (line.old ++ at_op units draws.old.state) ≤ LINE_ROOM }
@@ -37,9 +40,10 @@ fn put_at(line: &mut Line, draws: &mut Draws, units: u32)
 }
 
 /// An op that puts piece `number`, below 8, in place of `count` UTF-16 units from unit `from`.
+#[tactic(auto, unfolding(crate::specs::Made::edit_text))]
 fn put_edit_text(line: &mut Line, from: u32, count: u32, number: u32)
     requires small { from + count < 2 ^ 32 }
-    requires piece { number < 8 }
+    requires below { number < 8 }
     requires room { length (line.old ++ edit_text from count (piece number)) ≤ LINE_ROOM }
     ensures { line.new ≡ line.old ++ edit_text from count (piece number) }
 {
@@ -53,6 +57,7 @@ fn put_edit_text(line: &mut Line, from: u32, count: u32, number: u32)
 }
 
 /// An op that edits a text of so many UTF-16 units.
+#[tactic(auto, unfolding(crate::specs::Made::edit_op))]
 fn put_edit(line: &mut Line, draws: &mut Draws, units: u32)
     requires some { 16 < units }
     requires room { length (line.old ++ edit_op units draws.old.state) ≤ LINE_ROOM }
@@ -65,6 +70,7 @@ fn put_edit(line: &mut Line, draws: &mut Draws, units: u32)
 }
 
 /// Op `number` of a job: each twenty-first is an edit.
+#[tactic(auto, unfolding(crate::specs::Made::op, crate::specs::Made::after_op))]
 fn put_op(line: &mut Line, draws: &mut Draws, units: u32, number: u32)
     requires some { 16 < units }
     requires room { length (line.old ++ made.op units number draws.old.state) ≤ LINE_ROOM }
@@ -92,6 +98,7 @@ fn put_ops(line: &mut Line, draws: &mut Draws, units: u32)
 }
 
 /// That the first job keeps its text.
+#[tactic(auto, unfolding(crate::specs::Made::keep))]
 fn put_keep(line: &mut Line, number: u32)
     requires { length (line.old ++ keep number) ≤ LINE_ROOM }
     ensures { line.new ≡ line.old ++ keep number }
@@ -102,6 +109,7 @@ fn put_keep(line: &mut Line, number: u32)
 }
 
 /// Job `number` of a batch.
+#[tactic(auto, unfolding(crate::specs::Made::job))]
 fn put_job(line: &mut Line, draws: &mut Draws, units: u32, number: u32)
     requires some { 16 < units }
     requires room { length (line.old ++ job units number draws.old.state) ≤ LINE_ROOM }
@@ -129,6 +137,7 @@ fn put_jobs(line: &mut Line, draws: &mut Draws, units: u32)
 }
 
 /// Puts the line of a batch over a text of so many UTF-16 units.
+#[tactic(auto, unfolding(crate::specs::Made::batch_line))]
 pub(crate) fn put_batch(line: &mut Line, draws: &mut Draws, units: u32)
     requires empty { line.old ≡ [] }
     requires some { 16 < units }

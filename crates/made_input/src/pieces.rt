@@ -1,5 +1,5 @@
 //! The pieces of a made source text, and the line that loads it.
-ghost use Rattle.std.specs.Prelude.{◌≡◌, ◌<◌, ◌≤◌, [], ◌++◌, length};
+ghost use Rattle.std.specs.Prelude.{◌≡◌, ◌<◌, ◌≤◌, [], ◌∷◌, ◌++◌, length};
 ghost use Rattle.text_spec.specs.Text.{utf16};
 ghost use Rattle.made_input.specs.Draws.{stepped};
 ghost use Rattle.made_input.specs.Pieces.{piece};
@@ -63,6 +63,7 @@ fn put_source(line: &mut Line, draws: &mut Draws) -> u32
 }
 
 /// Puts the line that loads a source text, and answers the text's length in UTF-16 units.
+#[tactic(auto, unfolding(crate::specs::Made::load_line))]
 pub(crate) fn put_load(line: &mut Line, draws: &mut Draws) -> u32
     requires empty { line.old ≡ [] }
     ensures bytes { line.new ≡ load_line draws.old.state ++ 10 ∷ [] }
