@@ -32,7 +32,8 @@ pub(crate) fn piece_escaped(number: u32) -> &'static str
 /// The length of a piece in UTF-16 units: its number is below 8.
 fn piece_units(number: u32) -> u32
     requires { number < 8 }
-    ensures { result ≡ length (utf16 (piece number)) }
+    ensures units { result ≡ length (utf16 (piece number)) }
+    ensures small { result ≤ 32 }
 {
     match number {
         0 => 32,
@@ -46,6 +47,19 @@ fn piece_units(number: u32) -> u32
     }
 }
 
+/// Appends a drawn piece as it stands in a JSON string, and answers its length in UTF-16 units.
+fn put_piece(line: &mut Line, draws: &mut Draws) -> u32
+    requires { length (line.old ++ escaped (piece_drawn draws.old.state)) ≤ LINE_ROOM }
+    ensures bytes { line.new ≡ line.old ++ escaped (piece_drawn draws.old.state) }
+    ensures units { result ≡ length (utf16 (piece_drawn draws.old.state)) }
+    ensures small { result ≤ 32 }
+    ensures state { draws.new.state ≡ stepped draws.old.state }
+{
+    let number = draws.draw(8);
+    line.put(piece_escaped(number).as_bytes());
+    piece_units(number)
+}
+
 /// Appends the pieces of a source text as they stand in a JSON string, and answers the text's length in UTF-16 units.
 fn put_source(line: &mut Line, draws: &mut Draws) -> u32
     requires { length (line.old ++ escaped (made.source draws.old.state)) ≤ LINE_ROOM }
@@ -54,10 +68,8 @@ fn put_source(line: &mut Line, draws: &mut Draws) -> u32
     ensures state { draws.new.state ≡ after_source draws.old.state }
 {
     let mut units = 0;
-    for _ in 0..PIECES {
-        let number = draws.draw(8);
-        line.put(piece_escaped(number).as_bytes());
-        units += piece_units(number);
+    for _number in 0..PIECES {
+        units += put_piece(line, draws);
     }
     units
 }
