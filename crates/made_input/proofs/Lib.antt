@@ -1,5 +1,6 @@
 pub mod Drawn
 pub mod Eight
+pub mod Lengths
 pub mod Rooms
 pub mod Source
 pub mod Turns

@@ -59,7 +59,7 @@ pub put-more : (text : ℕ → ℕ → List ℕ) (after : ℕ → ℕ → ℕ) (
 put-more text after n t x y z before line next below is state_is so_far =
     let rest = λ (s : ℕ). in_turn text after (n - (t + 1)) (t + 1) s in
     record {
-      whole =  ap (λ s. next ++ rest s) state_is ∙ ap (λ l. l ++ rest (after t y)) is ∙ append_assoc line (text t y) (rest (after t y))
+      whole = ap (λ s. next ++ rest s) state_is ∙ ap (λ l. l ++ rest (after t y)) is ∙ append_assoc line (text t y) (rest (after t y))
           ∙ ap (λ l. line ++ l) (sym (turn-at text after n t y below)) ∙ so_far.whole;
       last = ap (λ s. left_by after (n - (t + 1)) (t + 1) s) state_is ∙ sym (left-at after n t y below) ∙ so_far.last;
     }

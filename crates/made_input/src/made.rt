@@ -24,14 +24,14 @@ pub struct MadeInput {
 }
 
 impl Model for MadeInput {
-    ghost use Rattle.std.specs.Prelude.{◌≤◌, ◌<◌, ◌^◌, ◌++◌, ℕ, List, length, drop};
+    ghost use Rattle.std.specs.Prelude.{◌≡◌, ◌≤◌, ◌<◌, ◌^◌, ◌++◌, ◌⊎◌, ℕ, List, length, drop};
     ghost use Rattle.made_input.specs.Made.{batch_lines, joined};
 
     ghost Value = { List ℕ };
 
     ghost view = { λ m. drop m.at m.line ++ joined (batch_lines m.units m.lines_left m.draws.state) };
 
-    ghost invariant = { λ m. (m.at ≤ length m.line) × (16 < m.units) × (m.units < 10 ^ 5) };
+    ghost invariant = { λ m. (m.at ≤ length m.line) × ((m.at < length m.line) ⊎ (m.lines_left ≡ 0)) × (16 < m.units) × (m.units < 10 ^ 5) };
 }
 
 impl MadeInput {
@@ -53,18 +53,6 @@ impl MadeInput {
             lines_left: lines - 1,
         })
     }
-
-    /// Makes the next line, where there is one and the one before it has been read.
-    fn make_line(&mut self)
-        ensures same { self.new ≡ self.old }
-    {
-        if self.at == self.line.len() && self.lines_left > 0 {
-            self.line.clear();
-            put_batch(&mut self.line, &mut self.draws, self.units);
-            self.at = 0;
-            self.lines_left -= 1;
-        }
-    }
 }
 
 impl Source for MadeInput {
@@ -82,10 +70,16 @@ impl Source for MadeInput {
         ensures counts { 0 ≡ faults_after_read result 0 }
         ensures succeeds { IsOk result }
     {
-        self.make_line();
         let count = buf.len().min(self.line.len() - self.at);
         buf[..count].copy_from_slice(self.line.part(self.at, count));
         self.at += count;
+        if self.at < self.line.len() || self.lines_left == 0 {
+            return Ok(count);
+        }
+        self.line.clear();
+        put_batch(&mut self.line, &mut self.draws, self.units);
+        self.at = 0;
+        self.lines_left -= 1;
         Ok(count)
     }
 }
