@@ -84,7 +84,7 @@ edit_text-short a d text few short =
     let first : length (decimal a) ≤ 5 = decimal-short a (omega (arith, few)) in
     let second : length (decimal (a + d)) ≤ 5 = decimal-short (a + d) few in
     let end = codes "],\"with\":\"" ++ (escaped text ++ codes "\"}") in
-    let end_short : length end ≤ 60 = omega (arith, short, length-append (escaped text) (codes "\"}")) in
+    let end_short : length end ≤ 52 = omega (arith, short, length-append (escaped text) (codes "\"}")) in
     omega (arith, first, second, end_short, length-append (decimal a) (codes "," ++ (decimal (a + d) ++ end)), length-append (decimal (a + d)) end)
 
 pub edit-short : (u x : ℕ) → 16 < u → u < 100000 → length (edit_op u x) ≤ 79
