@@ -1,6 +1,8 @@
 pub mod Drawn
 pub mod Eight
 pub mod Lengths
+pub mod Lines
+pub mod Newlines
 pub mod Reading
 pub mod Rooms
 pub mod Source
