@@ -11,5 +11,7 @@ mod line;
 mod made;
 mod ops;
 mod pieces;
+#[cfg(test)]
+mod tests;
 
 pub use made::MadeInput;
