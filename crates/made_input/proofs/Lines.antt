@@ -1,9 +1,12 @@
 -- The lines of the input: how many, how long, and without a newline.
-use Rattle.std.proofs.Common.{◌≡◌, ◌≢◌, ℕ, zero, suc, ◌+◌, ◌-◌, ◌*◌, ◌<◌, ◌≤◌, List, [], ◌∷◌, ◌++◌, length, refl, ap, subst, ◌∙◌, arith, length-append, All}
+use Rattle.std.proofs.Common.{◌≡◌, ◌≢◌, ◌==◌, Bool, true, false, get_or, ℕ, zero, suc, ◌+◌, ◌-◌, ◌*◌, ◌<◌, ◌≤◌, List, [], ◌∷◌, ◌++◌, length, refl, ap, subst, ◌∙◌, arith, length-append, All}
+use Rattle.std.specs.List.{slice_split}
+use Rattle.std.proofs.lemmas.Bool.{ne_eqb}
 use Rattle.std.proofs.lemmas.List.Elements.{All-nil, All-cons}
+use Rattle.std.proofs.lemmas.List.Splits.{slice_split_at}
 use Rattle.made_input.specs.Made.{load_line, units, batch_line, batch_lines, after_batch, after_source, made_lines, joined, made}
 use Rattle.made_input.proofs.Lengths.{load-short, batch-short, units-low, units-high}
-use Rattle.made_input.proofs.Newlines.{clean-all, load-clean, batch-clean}
+use Rattle.made_input.proofs.Newlines.{clean, clean-all, load-clean, batch-clean}
 
 pub batches-count : (u n x : ℕ) → length (batch_lines u n x) ≡ n
 batches-count u zero x = refl
@@ -34,3 +37,19 @@ unfolding made
 made-short number n few =
     let batches : length (joined (batch_lines (units number) (n - 1) (after_source number))) ≤ 30001 * (n - 1) = batches-short (units number) (n - 1) (after_source number) (units-low number) (units-high number) in
     omega (arith, few, batches, load-short number, length-append (load_line number) (10 ∷ joined (batch_lines (units number) (n - 1) (after_source number))))
+
+unmarked : (line : List ℕ) → clean line ≡ true → All (λ b. (b == 10) ≡ false) line
+unmarked line plain = λ k d inside. ne_eqb (get_or line k d) 10 (clean-all line plain k d inside)
+
+-- cut at each newline, the lines come apart again, and nothing stands behind the last newline
+pub batches-parts : (u n x : ℕ) → 16 < u → u < 100000 → slice_split (λ b. b == 10) (joined (batch_lines u n x)) ≡ batch_lines u n x ++ [] ∷ []
+batches-parts u zero x some few = refl
+batches-parts u (suc n) x some few =
+    slice_split_at (λ b. b == 10) (batch_line u x) 10 (joined (batch_lines u n (after_batch x))) (unmarked (batch_line u x) (batch-clean u x some few)) refl
+    ∙ ap (λ l. batch_line u x ∷ l) (batches-parts u n (after_batch x) some few)
+
+pub made-parts : (number n : ℕ) → slice_split (λ b. b == 10) (made number n) ≡ made_lines number n ++ [] ∷ []
+unfolding made
+made-parts number n =
+    slice_split_at (λ b. b == 10) (load_line number) 10 (joined (batch_lines (units number) (n - 1) (after_source number))) (unmarked (load_line number) (load-clean number)) refl
+    ∙ ap (λ l. load_line number ∷ l) (batches-parts (units number) (n - 1) (after_source number) (units-low number) (units-high number))

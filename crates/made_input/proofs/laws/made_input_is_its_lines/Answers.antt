@@ -1,6 +1,6 @@
 use Rattle.std.proofs.Common.{◌≡◌, ◌-◌, ◌+◌, length, suc, arith, refl}
 use Rattle.made_input.specs.Made.{made, batch_lines, units, after_source}
-use Rattle.made_input.proofs.Lines.{batches-count, lines-clean}
+use Rattle.made_input.proofs.Lines.{batches-count, lines-clean, made-parts}
 use Rattle.made_input.proofs.laws.made_input_is_its_lines.Goals as goal
 
 pub returns-clause-whole : goal.returns-clause-whole
@@ -12,3 +12,6 @@ returns-clause-count c number n some = omega (arith, some, batches-count (units 
 
 pub returns-clause-lines : goal.returns-clause-lines
 returns-clause-lines c = lines-clean
+
+pub returns-clause-parts : goal.returns-clause-parts
+returns-clause-parts c = made-parts
