@@ -1,5 +1,5 @@
 -- The pieces, one by one.
-use Rattle.std.proofs.Common.{◌≡◌, ℕ, zero, suc, ◌+◌, ◌<◌, ◌≤◌, List, [], ◌∷◌, ◌++◌, length, codes, refl, arith, sym, subst, lit≤}
+use Rattle.std.proofs.Common.{◌≡◌, ℕ, zero, suc, ◌<◌, ◌≤◌, [], ◌∷◌, length, refl, arith, sym, subst, lit≤}
 use Rattle.json.specs.Print.{escape_byte}
 use Rattle.text_spec.specs.Text.{utf16}
 use Rattle.made_input.specs.Pieces.{piece}

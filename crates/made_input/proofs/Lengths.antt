@@ -1,10 +1,9 @@
 -- How long the lines are at most, and how long the source text is.
-use Rattle.std.proofs.Common.{◌≡◌, ℕ, zero, suc, ◌+◌, ◌-◌, ◌*◌, ◌%◌, ◌<◌, ◌≤◌, ◌^◌, ◌==◌, Bool, true, false, cond, List, [], ◌∷◌, ◌++◌, length, refl, ap, sym, subst, ◌∙◌, arith, length-append, codes, lit<, lit≤, if◌then◌else◌}
+use Rattle.std.proofs.Common.{◌≡◌, ℕ, zero, suc, ◌+◌, ◌-◌, ◌*◌, ◌<◌, ◌≤◌, ◌==◌, true, false, List, [], ◌++◌, length, refl, ap, ◌∙◌, arith, length-append, codes, lit<, lit≤, if◌then◌else◌}
 use Rattle.std.specs.Prelude.{decimal}
 use Rattle.std.proofs.lemmas.Fmt.{length-decimal-le}
 use Rattle.text_spec.specs.Text.{utf16}
-use Rattle.made_input.specs.Draws.{drawn, stepped, in_turn, left_by}
-use Rattle.made_input.specs.Pieces.{piece}
+use Rattle.made_input.specs.Draws.{drawn, stepped, in_turn}
 use Rattle.made_input.specs.Made.{escaped, piece_drawn, source, units, load_line, at_op, edit_text, edit_op, op, is_edit, after_op, comma, ops, after_ops, keep, job, jobs, batch_line}
 use Rattle.made_input.proofs.Drawn.{drawn-below}
 use Rattle.made_input.proofs.Eight.{piece-short, units-some}

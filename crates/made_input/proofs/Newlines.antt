@@ -1,5 +1,5 @@
 -- That no line has a newline inside of it.
-use Rattle.std.proofs.Common.{◌≡◌, ℕ, zero, suc, ◌+◌, ◌-◌, ◌*◌, ◌%◌, ◌<◌, ◌≤◌, ◌^◌, ◌==◌, ◌&&◌, Bool, true, false, List, [], ◌∷◌, ◌++◌, length, refl, ap, sym, subst, ◌∙◌, arith, codes, lit<, if◌then◌else◌, All}
+use Rattle.std.proofs.Common.{◌≡◌, ℕ, zero, suc, ◌+◌, ◌-◌, ◌%◌, ◌<◌, ◌^◌, ◌==◌, Bool, true, false, List, [], ◌∷◌, ◌++◌, refl, ap, subst, ◌∙◌, arith, codes, lit<, if◌then◌else◌, All}
 use Rattle.std.specs.Prelude.{decimal, ◌≢◌}
 use Rattle.std.specs.List.{list_all}
 use Rattle.std.proofs.lemmas.Bool.{and_parts, and_from, false≢true, not_from_false, ne_eqb}
@@ -10,10 +10,9 @@ use Rattle.std.proofs.Math.Bool.{not}
 use Rattle.std.proofs.Math.Nat.{mod-lt}
 use Rattle.made_input.specs.Draws.{drawn, stepped, in_turn}
 use Rattle.made_input.specs.Pieces.{piece}
-use Rattle.made_input.specs.Made.{escaped, piece_drawn, source, units, load_line, at_op, edit_text, edit_op, op, is_edit, after_op, comma, ops, after_ops, keep, job, jobs, batch_line, batch_lines, after_batch, after_source, made_lines}
+use Rattle.made_input.specs.Made.{escaped, piece_drawn, source, load_line, at_op, edit_text, edit_op, op, is_edit, after_op, comma, ops, after_ops, keep, job, jobs, batch_line}
 use Rattle.made_input.proofs.Drawn.{drawn-below}
 use Rattle.made_input.proofs.Eight.{by_eight, piece-0, piece-1, piece-2, piece-3, piece-4, piece-5, piece-6, piece-7}
-use Rattle.made_input.proofs.Lengths.{units-low, units-high}
 use Rattle.made_input.proofs.Source.{pieces_from, escaped-append, escaped-nil}
 use Rattle.made_input.proofs.Turns.{turn-first, turn-none}
 

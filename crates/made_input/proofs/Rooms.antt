@@ -1,5 +1,5 @@
 -- A line that grows part by part: where the whole has room each part has, and the parts come to the whole.
-use Rattle.std.proofs.Common.{◌≡◌, ℕ, ◌+◌, ◌≤◌, List, ◌++◌, length, ap, sym, subst, ◌∙◌, arith, length-append, append_assoc}
+use Rattle.std.proofs.Common.{◌≡◌, ℕ, ◌≤◌, List, ◌++◌, length, ap, sym, subst, ◌∙◌, arith, length-append, append_assoc}
 
 pub room-front : (room : ℕ) (line part rest : List ℕ) → length (line ++ (part ++ rest)) ≤ room → length (line ++ part) ≤ room
 room-front room line part rest h = omega (arith, length-append line part, length-append line (part ++ rest), length-append part rest, h)

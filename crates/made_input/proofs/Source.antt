@@ -1,5 +1,5 @@
 -- The source text piece by piece: as it stands in a JSON string, and its length in UTF-16 units.
-use Rattle.std.proofs.Common.{◌≡◌, ℕ, zero, suc, ◌+◌, ◌-◌, ◌*◌, ◌<◌, ◌≤◌, List, [], ◌++◌, length, refl, ap, sym, subst, ◌∙◌, arith, length-append, append_assoc}
+use Rattle.std.proofs.Common.{◌≡◌, ℕ, ◌+◌, ◌-◌, ◌*◌, ◌<◌, ◌≤◌, List, [], ◌++◌, length, refl, ap, sym, subst, ◌∙◌, arith, length-append, append_assoc}
 use Rattle.std.proofs.lemmas.List.{append-nil}
 use Rattle.std.proofs.lemmas.Grind.{flat_map-append}
 use Rattle.std.proofs.lemmas.Str.{encodes-append}
@@ -8,7 +8,7 @@ use Rattle.json.specs.Print.{escape, escape_byte}
 use Rattle.text_spec.specs.Text.{utf8, utf16}
 use Rattle.made_input.specs.Draws.{stepped, in_turn, left_by}
 use Rattle.made_input.specs.Made.{escaped, piece_drawn}
-use Rattle.made_input.proofs.Turns.{turn-first, turn-none, turn-at, left-at, left-none}
+use Rattle.made_input.proofs.Turns.{turn-none, turn-at, left-at, left-none}
 
 pub escaped-append : (a b : List ℕ) → escaped (a ++ b) ≡ escaped a ++ escaped b
 unfolding escaped

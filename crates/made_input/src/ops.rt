@@ -1,6 +1,6 @@
 //! The line of a batch: eight jobs of 210 ops each.
 ghost use Rattle.std.specs.Prelude.{◌≡◌, ◌+◌, ◌<◌, ◌≤◌, ◌^◌, [], ◌∷◌, ◌++◌, length};
-ghost use Rattle.made_input.specs.Draws.{drawn, stepped};
+ghost use Rattle.made_input.specs.Draws.{stepped};
 ghost use Rattle.made_input.specs.Pieces.{piece};
 ghost use Rattle.made_input.specs.Made as made;
 ghost use Rattle.made_input.specs.Made.{after_batch, after_op, after_ops, at_op, batch_line, comma, edit_op, edit_text, job, keep};

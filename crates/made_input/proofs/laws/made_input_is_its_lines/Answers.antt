@@ -1,5 +1,5 @@
-use Rattle.std.proofs.Common.{◌≡◌, ◌-◌, ◌+◌, length, suc, arith, refl}
-use Rattle.made_input.specs.Made.{made, batch_lines, units, after_source}
+use Rattle.std.proofs.Common.{◌-◌, arith, refl}
+use Rattle.made_input.specs.Made.{made, units, after_source}
 use Rattle.made_input.proofs.Lines.{batches-count, lines-clean, made-parts}
 use Rattle.made_input.proofs.laws.made_input_is_its_lines.Goals as goal
 

@@ -2,7 +2,7 @@ use Rattle.std.proofs.Common.{◌++◌, ◌∙◌}
 use Rattle.made_input.specs.declared.line.TheConstants.{LINE_ROOM}
 use Rattle.made_input.specs.Made.{comma, job, after_ops, jobs, after_batch}
 use Rattle.made_input.proofs.Rooms.{room-front, room-rest, parts-join}
-use Rattle.made_input.proofs.Turns.{put-none, put-room, put-more, put-all}
+use Rattle.made_input.proofs.Turns.{put-room, put-more, put-all}
 use Rattle.made_input.proofs.ops.put_jobs.Goals as goal
 
 pub put_comma-requires : goal.put_comma-requires

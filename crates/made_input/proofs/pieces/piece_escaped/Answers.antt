@@ -1,5 +1,4 @@
-use Rattle.std.proofs.Common.{◌≡◌, ℕ, ◌<◌, List, [], ◌∷◌, length, sym, subst, arith}
-use Rattle.text_spec.specs.Text.{utf16}
+use Rattle.std.proofs.Common.{◌≡◌, [], ◌∷◌, sym, subst, arith}
 use Rattle.made_input.specs.Pieces.{piece}
 use Rattle.made_input.specs.Made.{escaped}
 use Rattle.made_input.proofs.Eight.{piece-0, piece-1, piece-2, piece-3, piece-4, piece-5, piece-6, piece-7}

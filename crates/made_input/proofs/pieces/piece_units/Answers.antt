@@ -1,7 +1,6 @@
-use Rattle.std.proofs.Common.{◌≡◌, ℕ, ◌<◌, List, [], ◌∷◌, length, sym, subst, arith}
+use Rattle.std.proofs.Common.{◌≡◌, length, sym, subst, arith}
 use Rattle.text_spec.specs.Text.{utf16}
 use Rattle.made_input.specs.Pieces.{piece}
-use Rattle.made_input.specs.Made.{escaped}
 use Rattle.made_input.proofs.Eight.{units-0, units-1, units-2, units-3, units-4, units-5, units-6, units-7}
 use Rattle.made_input.proofs.pieces.piece_units.Goals as goal
 

@@ -1,5 +1,5 @@
-use Rattle.std.proofs.Common.{◌≡◌, ◌+◌, ◌-◌, ◌<◌, ◌++◌, [], ◌∷◌, ◌∙◌, length, ap, sym, subst, inl, arith, length-append, append_assoc}
-use Rattle.made_input.specs.Made.{load_line, units, after_source, batch_lines, joined, made}
+use Rattle.std.proofs.Common.{◌≡◌, ◌-◌, ◌<◌, ◌++◌, [], ◌∷◌, ◌∙◌, length, ap, sym, subst, inl, arith, length-append, append_assoc}
+use Rattle.made_input.specs.Made.{load_line, units, batch_lines, joined, made}
 use Rattle.made_input.proofs.Lengths.{units-low, units-high}
 use Rattle.made_input.proofs.made.MadeInput.new.Goals as goal
 

@@ -1,4 +1,4 @@
-use Rattle.std.proofs.Common.{◌≡◌, ◌+◌, ◌-◌, ◌<◌, ◌≤◌, length, drop, sym, inl, inr, ◌∙◌, arith, length-drop}
+use Rattle.std.proofs.Common.{◌≡◌, ◌+◌, ◌≤◌, length, drop, sym, inl, inr, ◌∙◌, arith, length-drop}
 use Rattle.made_input.specs.Made.{batch_lines, joined}
 use Rattle.made_input.proofs.Reading.{given, none-left}
 use Rattle.made_input.proofs.made.MadeInputSource.read.Goals as goal
