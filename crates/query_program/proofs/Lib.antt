@@ -7,3 +7,4 @@ mod Statuses
 mod Steps
 mod Histories
 mod Kept
+mod Equals

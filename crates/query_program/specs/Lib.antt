@@ -4,6 +4,7 @@ pub mod Ends
 pub mod Limits
 pub mod Lines
 pub mod Statuses
+pub mod Words
 -- what this crate's proof needs
 pub mod Reads
 pub mod Stops

@@ -7,6 +7,7 @@
 //! | file | topic |
 //! |---|---|
 //! | `top.rt` | `run`, its status |
+//! | `words.rt` | what the words of the command line ask for |
 //! | `stream.rt` | reads, answers and limits in turn |
 //! | `replies.rt` | the reply to one line, and to all whole lines in the buffer |
 //! | `line_buffer.rt` | the buffer of reads |
@@ -26,6 +27,8 @@ mod replies;
 mod stop;
 mod stream;
 mod top;
+mod words;
 
 pub use limits::{CAPACITY_WORDS, CREDITS, INPUT_LIMIT, LINE_LIMIT, SLOTS};
 pub use top::{Ended, run};
+pub use words::{Made, Told, read_words};
