@@ -8,3 +8,5 @@ mod Steps
 mod Histories
 mod Kept
 mod Equals
+mod Marks
+mod Ranges

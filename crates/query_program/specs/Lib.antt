@@ -4,10 +4,12 @@ pub mod Ends
 pub mod Limits
 pub mod Lines
 pub mod Statuses
+pub mod Summary
 pub mod Words
 -- what this crate's proof needs
 pub mod Reads
 pub mod Stops
+pub mod Tallied
 pub mod Writes
 pub mod Whole
 pub mod Default

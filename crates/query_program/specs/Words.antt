@@ -1,5 +1,5 @@
 -- What the words of the command line ask for. Each option stands at most once, in any order, as the words `--x` and `v` or the word `--x=v`.
-use Rattle.std.specs.Prelude.{ℕ, ◌<◌, ◌≤◌, ◌&&◌, Bool, true, false, List, [], ◌∷◌, Option, Some, None, codes, is_some, not, nat_le, nat_lt, ◌^◌, ◌==◌, if◌then◌else◌, option_and_then}
+use Rattle.std.specs.Prelude.{◌≡◌, ℕ, ◌<◌, ◌≤◌, ◌&&◌, Bool, true, false, List, [], ◌∷◌, Option, Some, None, IsSome, IfSome, codes, is_some, not, nat_le, nat_lt, ◌^◌, ◌==◌, if◌then◌else◌, option_and_then}
 use Rattle.std.specs.List.{list_any, list_all, before_first, after_first}
 use Rattle.std.specs.Char.{is_ascii_digit}
 use Rattle.std.specs.Str.{bytes_eq}
@@ -77,3 +77,22 @@ asked_from found (word ∷ next ∷ more) =
 -- what the words ask for, where they are of the form
 unfoldable pub options_of : List (List ℕ) → Option Told
 options_of words = asked_from nothing words
+
+abbrev pub IsLineCount : ℕ → Type 0
+IsLineCount n = (1 ≤ n) × (n ≤ 1000)
+
+abbrev pub IsWorkerCount : ℕ → Type 0
+IsWorkerCount n = (1 ≤ n) × (n ≤ 8)
+
+-- what is asked for has 1 to 8 workers, and 1 to 1,000 lines where an input is made
+pub record IsInRange (told : Told) : Type 0 where
+  pub workers : IsWorkerCount told.workers
+  pub lines : IfSome told.made (λ made. IsLineCount made.lines)
+
+-- the input that the words ask to be made
+abbrev pub made_by : List (List ℕ) → Option Made
+made_by words = option_and_then (λ told. told.made) (options_of words)
+
+-- the words are of the form, and ask for no input to be made: it is read
+abbrev pub IsPlain : List (List ℕ) → Type 0
+IsPlain words = IsSome (options_of words) × (made_by words ≡ None)

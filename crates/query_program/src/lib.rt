@@ -8,6 +8,7 @@
 //! |---|---|
 //! | `top.rt` | `run`, its status |
 //! | `words.rt` | what the words of the command line ask for |
+//! | `summary.rt`, `tally.rt` | the summary of a made input, and what its answers are counted by |
 //! | `stream.rt` | reads, answers and limits in turn |
 //! | `replies.rt` | the reply to one line, and to all whole lines in the buffer |
 //! | `line_buffer.rt` | the buffer of reads |
@@ -26,6 +27,8 @@ mod output;
 mod replies;
 mod stop;
 mod stream;
+mod summary;
+mod tally;
 mod top;
 mod words;
 

@@ -1,8 +1,8 @@
 //! The words of the command line.
-ghost use Rattle.std.specs.Prelude.{◌≡◌};
+ghost use Rattle.std.specs.Prelude.{◌≡◌, IfSome};
 ghost use Rattle.std.specs.List.{list_all};
 ghost use Rattle.std.specs.Char.{is_ascii_digit};
-ghost use Rattle.query_program.specs.Words.{name_of, number_of, told_once, told_by, asked_by, options_of};
+ghost use Rattle.query_program.specs.Words.{name_of, number_of, told_once, told_by, asked_by, options_of, IsInRange};
 
 use text_spec::TextList;
 
@@ -46,7 +46,8 @@ pub(crate) struct Found {
 /// one or more. `--workers` is 1 to 8, and 1 where it isn't there. `--make`, 0 to 4,294,967,295, and `--lines`, 1 to 1,000, stand
 /// together or not at all.
 pub fn read_words(words: &TextList) -> Option<Told>
-    ensures { result ≡ options_of words.now }
+    ensures told { result ≡ options_of words.now }
+    ensures ranges { IfSome result IsInRange }
 {
     let mut found = Found {
         workers: None,
