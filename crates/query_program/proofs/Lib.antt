@@ -10,3 +10,4 @@ mod Kept
 mod Equals
 mod Marks
 mod Ranges
+mod Summed
