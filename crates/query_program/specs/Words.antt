@@ -71,8 +71,8 @@ asked_from found [] = asked_by found
 asked_from found (word ∷ []) = if has_equals word then option_and_then asked_by (told_by found (before_equals word) (behind_equals word)) else None
 asked_from found (word ∷ next ∷ more) =
     if has_equals word
-        then option_and_then (λ f. asked_from f (next ∷ more)) (told_by found (before_equals word) (behind_equals word))
-        else option_and_then (λ f. asked_from f more) (told_by found word next)
+    then option_and_then (λ f. asked_from f (next ∷ more)) (told_by found (before_equals word) (behind_equals word))
+    else option_and_then (λ f. asked_from f more) (told_by found word next)
 
 -- what the words ask for, where they are of the form
 unfoldable pub options_of : List (List ℕ) → Option Told

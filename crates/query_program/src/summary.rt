@@ -49,7 +49,12 @@ fn put_line(out: &mut Vec<u8>, name: &[u8], number: u64) -> Result<(), OutOfMemo
 
 /// The summary of an input of so many lines and bytes, whose answers were tallied.
 #[tactic(auto, unfolding(crate::specs::Summary::summary_text))]
-pub(crate) fn summary_text(alloc: Global, lines: u32, input_length: u64, tally: &Tally) -> Result<Vec<u8>, OutOfMemory>
+pub(crate) fn summary_text(
+    alloc: Global,
+    lines: u32,
+    input_length: u64,
+    tally: &Tally,
+) -> Result<Vec<u8>, OutOfMemory>
     ensures { IfOk result (λ text. text.items ≡ summary_text lines input_length (length tally.now.written) (mark_of tally.now.written)) }
 {
     let mut out = Vec::new(alloc);
