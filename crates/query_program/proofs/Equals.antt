@@ -1,5 +1,5 @@
 -- A word cut at its first `=`, and the number that digits write.
-use Rattle.std.proofs.Common.{◌||◌, ◌≤◌, ◌^◌, nat_lt, Bool, Result, Ok, Err, ◌≡◌, ◌≢◌, ℕ, ◌+◌, ◌<◌, true, false, ◌==◌, List, [], ◌∷◌, ◌++◌, length, get_or, refl, sym, ap, ◌∙◌, arith, take, drop, drop-cons, Option, Some, None, suc, rules}
+use Rattle.std.proofs.Common.{◌||◌, ◌^◌, nat_lt, Bool, Result, Ok, Err, ◌≡◌, ◌≢◌, ℕ, ◌+◌, ◌<◌, true, false, ◌==◌, List, [], ◌∷◌, ◌++◌, length, get_or, refl, sym, ap, ◌∙◌, arith, take, drop, drop-cons, Some, None, suc, rules}
 use Rattle.std.proofs.lemmas.List.{take_at, drop_at, drop_all, append_assoc, get_or_append_left, get_or_at, length_push}
 use Rattle.std.proofs.lemmas.List.Sums.{position_or_len_is}
 use Rattle.std.proofs.lemmas.Bool.{ltb-true}

@@ -5,7 +5,6 @@ use Rattle.std.proofs.lemmas.Bool.{leb-true}
 use Rattle.query_program.specs.declared.words.Name.{Name}
 use Rattle.query_program.specs.declared.words.Name.TheVariants.{Workers, Make, Lines}
 use Rattle.query_program.specs.declared.words.Found.{Found}
-use Rattle.query_program.specs.declared.words.Told.{Told}
 use Rattle.query_program.specs.Words.{told_once, told_by, asked, asked_by, asked_from, workers_of, nothing, options_of, name_of, number_of, has_equals, before_equals, behind_equals, IsLineCount, IsWorkerCount, IsInRange}
 
 record Fine (f : Found) : Type 0 where

@@ -1,5 +1,5 @@
 -- The summary, from what was tallied.
-use Rattle.std.proofs.Common.{◌≡◌, ℕ, List, [], ◌++◌, length, ap, sym, subst, ◌∙◌, false, Option, Some, Result, Ok, Err, IfOk}
+use Rattle.std.proofs.Common.{◌≡◌, ℕ, List, [], ◌++◌, length, ap, subst, ◌∙◌, false, Option, Some, Result, Ok, Err, IfOk}
 use Rattle.std.specs.Result.{is_err, result_ok}
 use Rattle.made_input.specs.Made.{made}
 use Rattle.query_program.specs.Answers.{answers, empty}

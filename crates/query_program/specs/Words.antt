@@ -1,5 +1,5 @@
 -- What the words of the command line ask for. Each option stands at most once, in any order, as the words `--x` and `v` or the word `--x=v`.
-use Rattle.std.specs.Prelude.{◌≡◌, ℕ, ◌<◌, ◌≤◌, ◌&&◌, Bool, true, false, List, [], ◌∷◌, Option, Some, None, IsSome, IfSome, codes, is_some, not, nat_le, nat_lt, ◌^◌, ◌==◌, if◌then◌else◌, option_and_then}
+use Rattle.std.specs.Prelude.{◌≡◌, ℕ, ◌≤◌, ◌&&◌, Bool, List, [], ◌∷◌, Option, Some, None, IsSome, IfSome, codes, is_some, not, nat_le, nat_lt, ◌^◌, ◌==◌, if◌then◌else◌, option_and_then}
 use Rattle.std.specs.List.{list_any, list_all, before_first, after_first}
 use Rattle.std.specs.Char.{is_ascii_digit}
 use Rattle.std.specs.Str.{bytes_eq}

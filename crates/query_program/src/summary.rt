@@ -1,5 +1,5 @@
 //! The summary of a made input: how long the input is, and the four lines.
-ghost use Rattle.std.specs.Prelude.{◌≡◌, ◌+◌, ◌<◌, ◌≤◌, ◌++◌, [], length, IfOk, OnOk};
+ghost use Rattle.std.specs.Prelude.{◌≡◌, ◌+◌, ◌<◌, ◌≤◌, ◌++◌, length, IfOk, OnOk};
 ghost use Rattle.made_input.specs.Made.{made};
 ghost use Rattle.query_program.specs.Summary.{summary_line, summary_text, mark_of};
 

@@ -1,7 +1,7 @@
-ghost use Rattle.std.specs.Prelude.{◌≡◌, ◌+◌, ◌^◌, ◌<◌, ◌≤◌, [], ◌∷◌, ◌++◌, length, min, map, OnErr, Ok, Some};
+ghost use Rattle.std.specs.Prelude.{◌≡◌, ◌+◌, ◌^◌, ◌<◌, ◌≤◌, [], ◌∷◌, ◌++◌, length, map, OnErr, Ok, Some};
 ghost use Rattle.outside.specs.Bytes.{WriteGrows};
 ghost use Rattle.outside.specs.Causes.{Rose, faults_after_write};
-ghost use Rattle.query_program.specs.Summary.{mark_of, mark_after};
+ghost use Rattle.query_program.specs.Summary.{mark_of};
 
 use http_server::Log;
 use outside::{Failed, Sink};

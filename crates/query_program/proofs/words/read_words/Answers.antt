@@ -1,4 +1,4 @@
-use Rattle.std.proofs.Common.{◌≡◌, ◌+◌, ◌∙◌, ap, sym, arith, Some, None, IfSome, drop, subst}
+use Rattle.std.proofs.Common.{◌+◌, ◌∙◌, ap, sym, arith, Some, None, IfSome, drop, subst}
 use Rattle.std.specs.Prelude.{option_and_then}
 use Rattle.std.proofs.lemmas.List.{drop_all}
 use Rattle.std.proofs.lemmas.Str.Pattern.{split_parts}
