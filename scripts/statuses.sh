@@ -41,7 +41,10 @@ printf '%s\n[]' "$load" | check "all answered" 0 "" "$counts"$'\n'"$syntax"$'\n'
 # Words are refused before anything is read.
 printf '%s\n' "$load" | check "a word" 2 "$usage" "" x
 printf '%s\n' "$load" | check "an empty word" 2 "$usage" "" ""
-printf '%s\n' "$load" | check "two words" 2 "$usage" "" --workers 1
+printf '%s\n' "$load" | check "a number of workers" 0 "" "$counts"$'\n' --workers 1
+printf '%s\n' "$load" | check "too many workers" 2 "$usage" "" --workers=9
+printf '%s\n' "$load" | check "a made input without its lines" 2 "$usage" "" --make 1
+check "a made input" 0 "" $'lines 2\ninput 57420\noutput 67540\nmark 3736293009\n' --make 1 --lines=2 --workers 4 </
 printf '%s\n' "$load" | check "a word that is no text" 2 "$usage" "" $'\xff'
 
 # A folder can be opened and not be read.

@@ -31,6 +31,8 @@ mod query_lines_tests;
 #[cfg(test)]
 mod query_program_tests;
 #[cfg(test)]
+mod query_program_words_tests;
+#[cfg(test)]
 mod query_session_tests;
 #[cfg(test)]
 mod slot_model_tests;

@@ -338,7 +338,8 @@ fn copies_share_a_slot_until_one_is_edited(rt: HostRuntime) -> Result<(), OutOfM
     let opened = opened(rt.alloc(), &layout(256, 8_192, 4_096), &literals);
     let (heap, whole) = opened.expect(&rt, "no heap");
     let mut session = Session::new(rt.alloc(), heap.pass(whole), 1)?;
-    let load = r#"{"load":"a","text":"ééééééééééééééééééééééééééééééééééééééééééééééééééééééééééééééé😀ééééééééééééééééééééééééééééééééééééééééééééééééééééééééééééééé"}"#;
+    let load =
+        r#"{"load":"a","text":"ééééééééééééééééééééééééééééééééééééééééééééééééééééééééééééééé😀ééééééééééééééééééééééééééééééééééééééééééééééééééééééééééééééé"}"#;
     let _reply = answer(&rt, rt.alloc(), &mut session, load.as_bytes())?;
     let copy = br#"{"copy":"b","from":"a"}"#;
     let _reply = answer(&rt, rt.alloc(), &mut session, copy)?;
@@ -367,7 +368,11 @@ fn copies_share_a_slot_until_one_is_edited(rt: HostRuntime) -> Result<(), OutOfM
     let edit = br#"{"on":"b","do":[{"edit":[0,0],"with":"x"}]}"#;
     let reply = answer(&rt, rt.alloc(), &mut session, edit)?;
     let wanted = br#"{"results":[{"scalars":127,"utf16":128,"utf8":255}]}"#;
-    assert_eq!(rt; reply.as_slice(), wanted.as_slice(), "an edit of a text alone in its slot");
+    assert_eq!(rt;
+        reply.as_slice(),
+        wanted.as_slice(),
+        "an edit of a text alone in its slot"
+    );
     let (again, _) = slot_and_breadcrumbs(&rt, &session, b"b");
     assert_eq!(rt; again, edited, "an edit that was not done in place");
 

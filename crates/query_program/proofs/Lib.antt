@@ -15,3 +15,7 @@ mod Sharing
 mod Asking
 mod Used
 mod Stepping
+mod Equals
+mod Marks
+mod Ranges
+mod Summed

@@ -7,6 +7,8 @@
 //! | file | topic |
 //! |---|---|
 //! | `top.rt` | `run`, its status |
+//! | `words.rt` | what the words of the command line ask for |
+//! | `summary.rt`, `tally.rt` | the summary of a made input, and what its answers are counted by |
 //! | `stream.rt` | reads, answers and limits in turn |
 //! | `replies.rt` | the reply to one line, and to all whole lines in the buffer |
 //! | `line_buffer.rt` | the buffer of reads |
@@ -25,7 +27,11 @@ mod output;
 mod replies;
 mod stop;
 mod stream;
+mod summary;
+mod tally;
 mod top;
+mod words;
 
 pub use limits::{CAPACITY_WORDS, CREDITS, INPUT_LIMIT, LINE_LIMIT, SLOTS};
 pub use top::{Ended, run};
+pub use words::{Made, Told, read_words};

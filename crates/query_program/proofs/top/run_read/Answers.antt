@@ -5,7 +5,7 @@ use Rattle.query_program.specs.Limits.{HasLongLine, HasTooManyBytes, IsWithin}
 use Rattle.query_program.specs.Statuses.{IsUnhindered}
 use Rattle.query_program.proofs.Statuses.{if_some, decided, complete}
 use Rattle.query_program.proofs.Histories.{history-there}
-use Rattle.query_program.proofs.top.run.Goals as goal
+use Rattle.query_program.proofs.top.run_read.Goals as goal
 
 pub returns-clause-line_too_long : goal.returns-clause-line_too_long
 returns-clause-line_too_long g c = λ free.
@@ -23,7 +23,7 @@ returns-clause-within g c = λ free.
     (decided empty _ _ _ _ c.answer_input-end.result.end c.answer_input-end.ensures.ends (subst IsUnhindered c.status_of.ensures free))
 
 pub returns-clause-complete : goal.returns-clause-complete
-returns-clause-complete g c = λ plain.
+returns-clause-complete g c =
     subst (λ s. IfSome (g.S.Source.left c.args.source.now) (λ input. IsWithin input → ¬ (Rose (g.S.Source.faults c.args.source.now) (g.S.Source.faults c.answer_input-end.new.source))
     → ¬ (Rose (g.K.Sink.faults c.args.sink.now) (g.K.Sink.faults c.answer_input-end.new.sink)) → (s ≡ 0) ⊎ (s ≡ 5))) (sym c.status_of.ensures)
     (complete empty _ _ _ _ c.answer_input-end.result.end _ _ c.answer_input-end.ensures.ends c.answer_input-end.ensures.read c.answer_input-end.ensures.write)

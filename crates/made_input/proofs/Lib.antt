@@ -1,0 +1,9 @@
+pub mod Drawn
+pub mod Eight
+pub mod Lengths
+pub mod Lines
+pub mod Newlines
+pub mod Reading
+pub mod Rooms
+pub mod Source
+pub mod Turns
