@@ -4,6 +4,7 @@ import json
 import random
 import struct
 import sys
+import unicodedata
 
 PIECES = [
     "let total = total + item_value;\n",
@@ -48,16 +49,20 @@ def one_load():
     return value + "\n"
 
 
-def questions(by_units):
-    """A text of 60 KB, loaded as a string or by its UTF-16 units, then 200 lines of 1,000 places by UTF-16 offset."""
-    text = mixed_text(60_000)
+def content_of(text, by_units):
+    """What a load of a text gives: the string, or its UTF-16 units; and how many units it has."""
     packed = text.encode("utf-16-le")
     units = len(packed) // 2
+    return ({"units": list(struct.unpack(f"<{units}H", packed))} if by_units else {"text": text}), units
+
+
+def questions(text, number, a_line, by_units=False):
+    """A text, loaded as a string or by its UTF-16 units, then lines of so many places each by UTF-16 offset."""
+    content, units = content_of(text, by_units)
     draw = random.Random(1)
-    content = {"units": list(struct.unpack(f"<{units}H", packed))} if by_units else {"text": text}
     lines = [line({"load": "doc", **content})]
-    for _ in range(200):
-        lines.append(line({"on": "doc", "do": [{"at": draw.randrange(units)} for _ in range(1000)]}))
+    for _ in range(number):
+        lines.append(line({"on": "doc", "do": [{"at": draw.randrange(units)} for _ in range(a_line)]}))
     return "\n".join(lines) + "\n"
 
 
@@ -69,19 +74,24 @@ def counts():
     return "\n".join(lines) + "\n"
 
 
-def edits():
-    """10,000 edits of a few bytes at random places of one text of 40 KB, 100 a line."""
-    text = mixed_text(40_000)
+def edits(text, number, a_line):
+    """Edits of a few bytes at random places of one text."""
     units = len(text.encode("utf-16-le")) // 2
     draw = random.Random(2)
     lines = [line({"load": "doc", "text": text})]
-    for _ in range(100):
+    for _ in range(number):
         ops = []
-        for _ in range(100):
+        for _ in range(a_line):
             at = draw.randrange(units - 8)
             ops.append({"edit": [at, at + draw.randrange(4)], "with": "aé😀"[: draw.randrange(4)]})
         lines.append(line({"on": "doc", "do": ops}))
     return "\n".join(lines) + "\n"
+
+
+def compares(a, b):
+    """300 compares of two texts of about 60 KB."""
+    lines = [line({"load": "a", "text": a}), line({"load": "b", "text": b})]
+    return "\n".join(lines + [line({"compare": ["a", "b"]})] * 300) + "\n"
 
 
 def edited_copies():
@@ -132,16 +142,26 @@ def batches():
 
 
 folder = sys.argv[1]
+mixed = mixed_text(60_000)
+ascii_text = (PIECES[0] + PIECES[2]) * 950
 for name, text in (
     ("small_loads", small_loads(4_000_000)),
-    ("one_load", one_load()),
-    ("questions", questions(False)),
-    ("questions_units", questions(True)),
-    ("counts", counts()),
     ("small_loads_twice", small_loads(8_000_000)),
-    ("edits", edits()),
-    ("edited_copies", edited_copies()),
+    ("one_load", one_load()),
+    ("questions_short", questions(mixed_text(100), 200, 1000)),
+    ("questions", questions(mixed, 200, 1000)),
+    ("questions_units", questions(mixed, 200, 1000, by_units=True)),
+    ("questions_long", questions(mixed_text(1_000_000), 2, 1000)),
+    ("questions_one_a_line", questions(mixed, 200_000, 1)),
     ("slices", slices()),
+    ("counts", counts()),
+    ("edits", edits(mixed_text(40_000), 100, 100)),
+    ("edits_long", edits(mixed_text(1_000_000), 10, 10)),
+    ("edited_copies", edited_copies()),
+    ("compares_equal", compares(mixed, mixed)),
+    ("compares_canonical", compares(mixed, unicodedata.normalize("NFD", mixed))),
+    ("compares_ascii", compares(ascii_text, ascii_text)),
+    ("compares_different", compares(mixed, "m" + mixed[1:])),
     ("batches", batches()),
 ):
     with open(f"{folder}/{name}.jsonl", "w", encoding="utf-8") as out:
