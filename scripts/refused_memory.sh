@@ -11,15 +11,22 @@ cat >"$work/refuse.c" <<'C'
 #define _GNU_SOURCE
 #include <dlfcn.h>
 #include <errno.h>
+#include <fcntl.h>
 #include <stdlib.h>
+#include <unistd.h>
 static long calls;
-static int refused(void) { const char *n = getenv("REFUSED_CALL"); return n && ++calls == atol(n) ? (errno = ENOMEM) : 0; }
+/* The call that is refused leaves a file, since the program may end without its libraries' last functions. */
+static int refused(void) {
+  const char *n = getenv("REFUSED_CALL");
+  if (!n || __atomic_add_fetch(&calls, 1, __ATOMIC_SEQ_CST) != atol(n)) return 0;
+  close(open(getenv("REFUSED_MARK"), O_CREAT | O_WRONLY, 0600));
+  errno = ENOMEM;
+  return 1;
+}
 static void *real(const char *name) { return dlsym(RTLD_NEXT, name); }
 void *malloc(size_t size) { return refused() ? NULL : ((void *(*)(size_t))real("malloc"))(size); }
 void *realloc(void *old, size_t size) { return refused() ? NULL : ((void *(*)(void *, size_t))real("realloc"))(old, size); }
-__attribute__((destructor)) static void end(void) { const char *n = getenv("REFUSED_CALL"); if (n && calls < atol(n)) _exit(99); }
 C
-sed -i '1a #include <unistd.h>' "$work/refuse.c"
 cc -shared -fPIC -O1 -o "$work/refuse.so" "$work/refuse.c" -ldl
 
 cat >"$work/input" <<'LINES'
@@ -51,8 +58,9 @@ call=0
 while true; do
   call=$((call + 1))
   status=0
-  LD_PRELOAD="$work/refuse.so" REFUSED_CALL=$call "$program" <"$work/input" >"$work/got" 2>"$work/err" || status=$?
-  [ "$status" = 99 ] && break
+  rm -f "$work/mark"
+  LD_PRELOAD="$work/refuse.so" REFUSED_CALL=$call REFUSED_MARK=$work/mark "$program" <"$work/input" >"$work/got" 2>"$work/err" || status=$?
+  [ -e "$work/mark" ] || break
   if [ "$status" = 5 ]; then
     cmp -s -n "$(stat -c %s "$work/got")" "$work/got" "$work/want" && continue
   elif [ "$status" = 0 ]; then
