@@ -1,10 +1,10 @@
 #!/usr/bin/env bash
-# Times the built strq on each input of make_inputs.py, and a peer beside it.
+# Times the built strq, or the program that STRQ names, on each input of make_inputs.py, and a peer beside it.
 # usage: bench/run.sh [PEER COMMAND..]     a peer reads standard input and writes standard output, as strq does
 # Prints for each input the median of five runs in seconds, MB/s of input, and whether the peer's replies are the same bytes.
 set -eu
 top=$(cd "$(dirname "$0")/.." && pwd)
-strq="$top/crates/strq/out/strq"
+strq=${STRQ:-$top/crates/strq/out/strq}
 [ -x "$strq" ] || { echo "bench: build strq first: scripts/strq </dev/null" >&2; exit 1; }
 work=$(mktemp -d)
 trap 'rm -rf "$work"' EXIT
